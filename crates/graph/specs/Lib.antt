@@ -1,0 +1,2 @@
+-- Graphs as rows of bits: the compound graph, its closure, the circle test, the graph of the root.
+pub mod Rows

@@ -1,0 +1,1 @@
+// Bits, little-endian numbers, and laws on lists that several crates cite.

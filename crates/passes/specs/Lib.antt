@@ -1,0 +1,3 @@
+-- The passes, from the bytes of a table to the report.
+pub mod Passes
+pub mod Test

@@ -1,0 +1,155 @@
+-- The passes over the productions of a grammar. Assumes nothing.
+use mathlib.Core.Bool.{Bool, true, false, _||_, cond}
+use mathlib.Core.List.{List, [], _∷_, _++_, map}
+use Prim.Native.Nat.{ℕ, zero, suc, _-_}
+use lib.Dec.{leb, ltb, eqb}
+use lib.ListN.{length, getD, replicate}
+use Rattle.numbers.specs.Lists.{both, upFrom, keep}
+use Rattle.passes.specs.declared.Answer.{Answer}
+use Rattle.passes.specs.declared.Answer.the-variants.{Noncircular, Circular, Refused, OutOfSteps, OutOfRoom}
+use Rattle.passes.specs.declared.Report.{Report}
+use Rattle.passes.specs.declared.Entry.{Entry}
+
+-- What the passes ask of a grammar. Over given subtree graphs a production has one compound graph: `graph` is the graph of the root
+-- that its closure gives, `circle` says whether it has a circle.
+pub record System : Type 0 where
+  pub left : ℕ → ℕ
+  pub rights : ℕ → List ℕ
+  pub graph : ℕ → List ℕ → ℕ
+  pub circle : ℕ → List ℕ → Bool
+
+-- what is stored, and how many closures have been made
+pub record State : Type 0 where
+  pub entries : List Entry
+  pub made : ℕ
+
+-- the passes go on, or have stopped with an answer and the root's seven entry numbers
+pub data Ran : Type 0 where
+  going : State → Ran
+  stopped : Answer → List ℕ → State → Ran
+
+-- the next thing is done where the passes go on
+abbrev pub andThen : Ran → (State → Ran) → Ran
+andThen (going s) next = next s
+andThen (stopped a root s) next = stopped a root s
+
+-- ---- the answer's numbers
+
+-- 01's number as a case of the answer
+unfoldable pub numbered : ℕ → Answer
+numbered k = cond (eqb k 8) OutOfSteps (cond (eqb k 9) OutOfRoom (Refused k))
+
+-- seven slots, the unused ones 0
+unfoldable pub seven : List ℕ → List ℕ
+seven xs = xs ++ replicate (7 - length xs) 0
+
+abbrev pub noRoot : List ℕ
+noRoot = replicate 7 0
+
+-- ---- candidates and combinations
+
+abbrev pub noEntry : Entry
+noEntry = record { symbol = 0; graph = 0; production = 0; kids = replicate 7 0 }
+
+abbrev pub entry : List Entry → ℕ → Entry
+entry es i = getD es i noEntry
+
+-- the candidates for a right symbol are the entries of that symbol
+unfoldable pub candidates : List Entry → ℕ → List ℕ
+candidates es s = keep (λ i. eqb (entry es i .symbol) s) (upFrom 0 (length es))
+
+-- each of the numbers xs before each of the combinations of the rest, the last right symbol changing fastest
+unfoldable pub prefixed : List ℕ → List (List ℕ) → List (List ℕ)
+prefixed [] rest = []
+prefixed (x ∷ xs) rest = map (λ c. x ∷ c) rest ++ prefixed xs rest
+
+-- all combinations, in ascending order; none where a right symbol has no candidate, and one, empty, where there is no right symbol
+unfoldable pub combinations : List (List ℕ) → List (List ℕ)
+combinations [] = [] ∷ []
+combinations (xs ∷ rest) = prefixed xs (combinations rest)
+
+-- ---- the six steps
+
+-- step 4 goes on where a stored graph is the same as the new one
+abbrev pub same : ℕ → ℕ → Bool
+same stored new = eqb stored new
+
+unfoldable pub known : ℕ → ℕ → List Entry → Bool
+known s graph [] = false
+known s graph (e ∷ es) = both (eqb (e .symbol) s) (same (e .graph) graph) || known s graph es
+
+-- the six steps by their four tests: L closures have been made; the compound graph has a circle; the symbol with the graph is stored;
+-- R entries are stored. Of the states `s` is the one before, `t` has the closure counted, `u` the entry stored too
+unfoldable pub six : Bool → Bool → Bool → Bool → ℕ → List ℕ → State → State → State → Ran
+six true round old full p root s t u = stopped (numbered 8) noRoot s
+six false true old full p root s t u = stopped (Circular p) root t
+six false false true full p root s t u = going t
+six false false false true p root s t u = stopped (numbered 9) noRoot t
+six false false false false p root s t u = going u
+
+abbrev pub counted : State → State
+counted s = record { entries = s .entries; made = suc (s .made) }
+
+abbrev pub stored : Entry → State → State
+stored e s = record { entries = s .entries ++ (e ∷ []); made = suc (s .made) }
+
+abbrev pub graphs : List Entry → List ℕ → List ℕ
+graphs es combo = map (λ i. entry es i .graph) combo
+
+module _ (W : System) (limit room : ℕ) where
+  -- one combination
+  unfoldable pub try : ℕ → List ℕ → State → Ran
+  try p combo s =
+      six (leb limit (s .made)) (W .circle p (graphs (s .entries) combo))
+      (known (W .left p) (W .graph p (graphs (s .entries) combo)) (s .entries))
+      (leb room (length (s .entries)))
+      p (seven combo) s (counted s)
+      (stored
+      (record { symbol = W .left p; graph = W .graph p (graphs (s .entries) combo); production = p; kids = seven combo })
+      s)
+
+  unfoldable pub tries : ℕ → List (List ℕ) → State → Ran
+  tries p [] s = going s
+  tries p (combo ∷ combos) s = andThen (try p combo s) (tries p combos)
+
+  -- ---- a turn, a pass, the passes
+
+  -- the candidates are the entries stored when the turn begins
+  unfoldable pub turn : ℕ → State → Ran
+  turn p s = tries p (combinations (map (candidates (s .entries)) (W .rights p))) s
+
+  -- one pass over the productions ps
+  unfoldable pub pass : List ℕ → State → Ran
+  pass [] s = going s
+  pass (p ∷ ps) s = andThen (turn p s) (pass ps)
+
+-- what comes back: the report, and the stored entries
+pub record Outcome : Type 0 where
+  pub report : Report
+  pub entries : List Entry
+
+abbrev pub outcome : Answer → List ℕ → State → ℕ → Outcome
+outcome a root s begun =
+    record {
+      report = record { answer = a; closures = s .made; entries = length (s .entries); passes = begun; root = root };
+      entries = s .entries;
+    }
+
+-- after the pass number `begun`, which began in the state `old`: noncircular where it stored nothing, else more passes
+abbrev pub after : State → ℕ → Ran → (State → Outcome) → Outcome
+after old begun (stopped a root s) more = outcome a root s begun
+after old begun (going s) more =
+    cond (eqb (length (s .entries)) (length (old .entries))) (outcome Noncircular noRoot s begun) (more s)
+
+abbrev pub empty : State
+empty = record { entries = []; made = 0 }
+
+module _ (W : System) (limit room : ℕ) where
+  -- `fuel` more passes over ps at the most, where `begun` have begun
+  unfoldable pub passesFrom : ℕ → List ℕ → ℕ → State → Outcome
+  passesFrom zero ps begun s = outcome Noncircular noRoot s begun
+  passesFrom (suc fuel) ps begun s = after s (suc begun) (pass W limit room ps s) (passesFrom fuel ps (suc begun))
+
+  -- each pass but the last stores an entry, so one pass more than the room is enough
+  unfoldable pub passes : List ℕ → Outcome
+  passes ps = passesFrom (suc room) ps 0 empty

@@ -1,0 +1,40 @@
+-- The circularity test: from the bytes of a table, the closure limit and the room to what comes back. Assumes nothing.
+use mathlib.Core.Bool.{cond}
+use mathlib.Core.List.{List}
+use Prim.Native.Nat.{ℕ}
+use lib.Dec.{eqb}
+use lib.ListN.{length}
+use Rattle.numbers.specs.Number.{bit}
+use Rattle.numbers.specs.Lists.{both, every, keep, below, upFrom}
+use Rattle.grammar.specs.Grammar.{Grammar, production, rights, symbolAt, edgesOf}
+use Rattle.grammar.specs.Table.{symbolIn, productionIn, edgeIn, edgesIn, grammarOf}
+use Rattle.grammar.specs.Refusal.{countsOk, offsetsOk, symbolOk, productionOk, nodeOk, allowed, edgeOk, oneEdge, edgesFrom, edgesRefusal, refusal}
+use Rattle.graph.specs.Rows.{link, own, placedTo, placedFrom, compound, through, step, stepsTo, closure, circleTo, hasCircle, rootTo, rootGraph}
+use Rattle.passes.specs.Passes.{System, Outcome, outcome, numbered, noRoot, seven, candidates, prefixed, combinations, known, six, try, tries, turn, pass, empty, passesFrom, passes}
+
+-- the closed rows of a production's compound graph over the graphs gs
+abbrev pub closed : ℕ → Grammar → ℕ → List ℕ → List ℕ
+closed w g p gs = closure (compound w (edgesOf g p) gs)
+
+unfoldable pub systemOf : ℕ → Grammar → System
+systemOf w g =
+    record {
+      left = λ p. production g p .left;
+      rights = λ p. rights (production g p);
+      graph = λ p gs. rootGraph w (closed w g p gs);
+      circle = λ p gs. hasCircle (closed w g p gs);
+    }
+
+-- a pass takes the productions by number
+abbrev pub byNumber : Grammar → List ℕ
+byNumber g = upFrom 0 (length (g .productions))
+
+unfoldable pub test : ℕ → List ℕ → ℕ → ℕ → Outcome
+test w bs limit room =
+    cond (eqb (refusal w bs) 0) (passes (systemOf w (grammarOf bs)) limit room (byNumber (grammarOf bs)))
+    (outcome (numbered (refusal w bs)) noRoot empty 0)
+
+-- to name this on an `unfolding` line is to open every rule
+unfoldable pub opened : Unit {0}
+unfolding both upFrom every keep below symbolAt symbolIn productionIn edgeIn edgesIn grammarOf countsOk offsetsOk symbolOk productionOk nodeOk allowed edgeOk oneEdge edgesFrom edgesRefusal refusal link own placedTo placedFrom compound through step stepsTo closure circleTo rootTo numbered seven candidates prefixed combinations known six try tries turn pass passesFrom passes systemOf test
+opened = tt

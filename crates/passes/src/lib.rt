@@ -1,0 +1,28 @@
+// The types that the rules and the code share.
+
+pub enum Answer {
+    Noncircular,
+    // The production at the root of the shown tree.
+    Circular(u16),
+    // A bad table: the number of its refusal, 1 to 7.
+    Refused(u8),
+    OutOfSteps,
+    OutOfRoom,
+}
+
+// `root` holds the entry numbers of the root's right symbols where the answer is circular, and 0 elsewhere.
+pub struct Report {
+    pub answer: Answer,
+    pub closures: u32,
+    pub entries: u16,
+    pub passes: u16,
+    pub root: [u16; 7],
+}
+
+// A symbol with a graph, made by a production over earlier entries, one for each right symbol; unused slots are 0.
+pub struct Entry {
+    pub symbol: u16,
+    pub graph: u64,
+    pub production: u16,
+    pub kids: [u16; 7],
+}

@@ -1,0 +1,72 @@
+-- K1 to K10, and what else 01 prints of its small grammars, from the tables' bytes. Assumes nothing.
+use mathlib.Core.Path.{_≡_, refl}
+use mathlib.Core.List.{List, [], _∷_}
+use Prim.Native.Nat.{ℕ}
+use lib.ListN.{replicate}
+use Rattle.passes.specs.declared.Answer.{Answer}
+use Rattle.passes.specs.declared.Answer.the-variants.{Noncircular, Circular}
+use Rattle.passes.specs.declared.Entry.{Entry}
+use Rattle.passes.specs.Passes.{Outcome, numbered}
+use Rattle.passes.specs.Test.{test, opened}
+use Rattle.verdict.specs.Small.{tableA, tableB, tableC, tableD, tableR}
+
+-- a line of the table: the answer, the closures, the entries, the passes
+abbrev Line : Type 0
+Line = Answer × ℕ × ℕ × ℕ
+
+abbrev line : List ℕ → ℕ → ℕ → Line
+line bs limit room =
+    let r = test 8 bs limit room .report in
+    (r .answer, r .closures, r .entries, r .passes)
+
+pub K :
+    _≡_ {A = List Line}
+    (line tableA 10 3
+    ∷ line tableA 9 3
+    ∷ line tableA 10 2
+    ∷ line tableA 0 0
+    ∷ line tableB 3 2
+    ∷ line tableB 2 2
+    ∷ line tableB 3 1
+    ∷ line tableB 1 1
+    ∷ line tableC 0 0
+    ∷ line tableD 0 0
+    ∷ [])
+    ((Noncircular, 10, 3, 3)
+    ∷ (numbered 8, 9, 3, 3)
+    ∷ (numbered 9, 3, 2, 2)
+    ∷ (numbered 8, 0, 0, 1)
+    ∷ (Circular 0, 3, 2, 2)
+    ∷ (numbered 8, 2, 2, 2)
+    ∷ (numbered 9, 2, 1, 1)
+    ∷ (numbered 8, 1, 1, 1)
+    ∷ (Noncircular, 0, 0, 1)
+    ∷ (Noncircular, 0, 0, 1)
+    ∷ [])
+unfolding opened tableA tableB tableC tableD
+K = refl
+
+abbrev made : ℕ → ℕ → ℕ → List ℕ → Entry
+made s g p kids = record { symbol = s; graph = g; production = p; kids = kids }
+
+-- the entries of A
+pub entries-A :
+    test 8 tableA 10 3 .entries
+    ≡ made 1 4 1 (replicate 7 0) ∷ made 1 2048 2 (replicate 7 0) ∷ made 0 0 0 (replicate 7 0) ∷ []
+unfolding opened tableA
+entries-A = refl
+
+-- all that comes back for B, as `circ` runs it
+pub whole-B :
+    test 8 tableB 1000000 1024
+    ≡ record {
+      report = record { answer = Circular 0; closures = 3; entries = 2; passes = 2; root = replicate 7 0 };
+      entries = made 1 2052 1 (replicate 7 0) ∷ made 1 2048 2 (replicate 7 0) ∷ [];
+    }
+unfolding opened tableB
+whole-B = refl
+
+-- entries stored during a turn wait for the next turn: were they to join it, there would be 6 closures
+pub waits : line tableR 100 10 ≡ (Noncircular, 5, 2, 2)
+unfolding opened tableR
+waits = refl
