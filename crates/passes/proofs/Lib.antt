@@ -1,2 +1,4 @@
 pub mod Cases
 pub mod Borders
+pub mod Growth
+pub mod Nested

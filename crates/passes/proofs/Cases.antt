@@ -3,12 +3,12 @@ use mathlib.Core.Path.{_≡_, refl}
 use mathlib.Core.List.{List, [], _∷_}
 use Prim.Native.Nat.{ℕ}
 use lib.ListN.{replicate}
 use Rattle.passes.specs.declared.Answer.{Answer}
 use Rattle.passes.specs.declared.Answer.the-variants.{Noncircular, Circular}
 use Rattle.passes.specs.declared.Entry.{Entry}
 use Rattle.passes.specs.Passes.{Outcome, numbered}
 use Rattle.passes.specs.Test.{test, opened}
-use Rattle.verdict.specs.Small.{tableA, tableB, tableC, tableD, tableR}
+use Rattle.passes.specs.Small.{tableA, tableB, tableC, tableD, tableR, tableQ}
 
 -- a line of the table: the answer, the closures, the entries, the passes
 abbrev Line : Type 0
@@ -70,3 +70,16 @@ whole-B = refl
 pub waits : line tableR 100 10 ≡ (Noncircular, 5, 2, 2)
 unfolding opened tableR
 waits = refl
+
+-- the last right symbol changes fastest, in ascending order
+pub fastest :
+    test 8 tableQ 100 10 .entries
+    ≡ made 1 0 0 (replicate 7 0)
+    ∷ made 1 2 1 (replicate 7 0)
+    ∷ made 0 0 2 (0 ∷ 0 ∷ replicate 5 0)
+    ∷ made 0 4 2 (0 ∷ 1 ∷ replicate 5 0)
+    ∷ made 0 2 2 (1 ∷ 0 ∷ replicate 5 0)
+    ∷ made 0 6 2 (1 ∷ 1 ∷ replicate 5 0)
+    ∷ []
+unfolding opened tableQ
+fastest = refl

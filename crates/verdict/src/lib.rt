@@ -1,1 +1,0 @@
-// No code: what is shown of the rules stands in specs/ and proofs/.
