@@ -1,0 +1,301 @@
+//! Grammars with known counts, and families of any size up to the limits.
+
+use crate::table::{Edge, Grammar, Production, Symbol};
+
+/// An edge as source occurrence and attribute, target occurrence and
+/// attribute.
+type Fields = (usize, usize, usize, usize);
+
+/// A symbol from letters: i for an inherited attribute, s for a synthesized
+/// one.
+fn symbol(letters: &str) -> Symbol {
+    Symbol {
+        inherited: letters.chars().map(|letter| letter == 'i').collect(),
+    }
+}
+
+fn production(left: usize, right: &[usize], edges: &[Fields]) -> Production {
+    let mut edges: Vec<_> = edges.iter().map(|&fields| edge(fields)).collect();
+    edges.sort();
+    Production {
+        left,
+        right: right.to_vec(),
+        edges,
+    }
+}
+
+fn edge(fields: Fields) -> Edge {
+    Edge {
+        source_occurrence: fields.0,
+        source_attribute: fields.1,
+        target_occurrence: fields.2,
+        target_attribute: fields.3,
+    }
+}
+
+pub fn a() -> Grammar {
+    Grammar {
+        symbols: vec![symbol(""), symbol("iiss")],
+        productions: vec![
+            production(0, &[1], &[(1, 2, 1, 1), (1, 3, 1, 0)]),
+            production(1, &[], &[(0, 0, 0, 2)]),
+            production(1, &[], &[(0, 1, 0, 3)]),
+        ],
+        start: 0,
+    }
+}
+
+pub fn b() -> Grammar {
+    let mut grammar = a();
+    grammar.productions[1] = production(1, &[], &[(0, 0, 0, 2), (0, 1, 0, 3)]);
+    grammar
+}
+
+pub fn c() -> Grammar {
+    Grammar {
+        symbols: vec![symbol("i")],
+        productions: vec![production(0, &[0], &[(1, 0, 1, 0)])],
+        start: 0,
+    }
+}
+
+/// Shows whether entries stored in a turn wait.
+pub fn r() -> Grammar {
+    Grammar {
+        symbols: vec![symbol("is")],
+        productions: vec![
+            production(0, &[], &[]),
+            production(0, &[0], &[(0, 0, 0, 1)]),
+        ],
+        start: 0,
+    }
+}
+
+/// One symbol and nothing else.
+pub fn empty() -> Grammar {
+    Grammar {
+        symbols: vec![symbol("")],
+        productions: Vec::new(),
+        start: 0,
+    }
+}
+
+/// Knuth's binary numbers: B has value and scale, L value, length and scale,
+/// N value.
+pub fn knuth() -> Grammar {
+    const B: usize = 0;
+    const L: usize = 1;
+    const N: usize = 2;
+    Grammar {
+        symbols: vec![symbol("si"), symbol("ssi"), symbol("s")],
+        productions: vec![
+            production(B, &[], &[]),
+            production(B, &[], &[(0, 1, 0, 0)]),
+            production(L, &[B], &[(1, 0, 0, 0), (0, 2, 1, 1)]),
+            production(
+                L,
+                &[L, B],
+                &[
+                    (1, 0, 0, 0),
+                    (2, 0, 0, 0),
+                    (0, 2, 2, 1),
+                    (0, 2, 1, 2),
+                    (1, 1, 0, 1),
+                ],
+            ),
+            production(N, &[L], &[(1, 0, 0, 0)]),
+            production(N, &[L, L], &[(1, 0, 0, 0), (2, 0, 0, 0), (2, 1, 2, 2)]),
+        ],
+        start: N,
+    }
+}
+
+pub fn figure_1() -> Grammar {
+    const A: usize = 0;
+    const B: usize = 1;
+    const C: usize = 2;
+    Grammar {
+        symbols: vec![symbol("si"), symbol("si"), symbol("sii")],
+        productions: vec![
+            production(A, &[B, C], &[(1, 0, 0, 0), (2, 0, 1, 1), (2, 0, 2, 1)]),
+            production(B, &[B], &[(1, 0, 0, 0), (0, 1, 1, 1)]),
+            production(B, &[], &[(0, 1, 0, 0)]),
+            production(C, &[], &[]),
+        ],
+        start: A,
+    }
+}
+
+/// The same, and B's inherited attribute takes from its synthesized one.
+pub fn figure_1_circular() -> Grammar {
+    let mut grammar = figure_1();
+    grammar.productions[0].edges.push(edge((1, 0, 1, 1)));
+    grammar.productions[0].edges.sort();
+    grammar
+}
+
+/// Sixteen symbols without attributes and without a finite tree.
+pub fn chebotar() -> Grammar {
+    let rules: [(usize, &[usize]); 20] = [
+        (1, &[2]),
+        (2, &[3]),
+        (2, &[4]),
+        (3, &[2, 5]),
+        (4, &[6]),
+        (4, &[7]),
+        (5, &[8]),
+        (6, &[9]),
+        (7, &[10]),
+        (7, &[11]),
+        (8, &[12]),
+        (9, &[13]),
+        (10, &[14]),
+        (11, &[15]),
+        (12, &[8]),
+        (13, &[6]),
+        (14, &[15]),
+        (15, &[16]),
+        (15, &[5]),
+        (16, &[7]),
+    ];
+    // The names count from 1, the symbols from 0.
+    let below_one = |right: &[usize]| right.iter().map(|name| name - 1).collect::<Vec<_>>();
+    Grammar {
+        symbols: vec![symbol(""); 16],
+        productions: rules
+            .iter()
+            .map(|(left, right)| production(left - 1, &below_one(right), &[]))
+            .collect(),
+        start: 0,
+    }
+}
+
+/// The same, and A12 and A13 may also end.
+pub fn chebotar_finite() -> Grammar {
+    let mut grammar = chebotar();
+    grammar.productions.push(production(12 - 1, &[], &[]));
+    grammar.productions.push(production(13 - 1, &[], &[]));
+    grammar
+}
+
+const S: usize = 0;
+const X: usize = 1;
+
+/// S has no attributes, X has k inherited then k synthesized ones; the first
+/// production is S → X.
+fn family(k: usize) -> Grammar {
+    let letters = "i".repeat(k) + &"s".repeat(k);
+    Grammar {
+        symbols: vec![symbol(""), symbol(&letters)],
+        productions: vec![production(S, &[X], &[])],
+        start: S,
+    }
+}
+
+fn leaf(pairs: &[(usize, usize)], k: usize) -> Production {
+    let edges: Vec<_> = pairs.iter().map(|&(i, j)| (0, i, 0, k + j)).collect();
+    production(X, &[], &edges)
+}
+
+/// X → X: for each pair (i, j) the child's inherited attribute j takes from
+/// the parent's i, and the synthesized ones are copied up.
+fn step(pairs: &[(usize, usize)], k: usize) -> Production {
+    let down = pairs.iter().map(|&(i, j)| (0, i, 1, j));
+    let up = (k..2 * k).map(|j| (1, j, 0, j));
+    production(X, &[X], &down.chain(up).collect::<Vec<_>>())
+}
+
+/// S → X, the leaf that joins inherited j to synthesized j, and a step X → X
+/// for each list of pairs.
+pub fn steps(k: usize, lists: &[Vec<(usize, usize)>]) -> Grammar {
+    let mut grammar = family(k);
+    grammar.productions.push(leaf(&straight(k), k));
+    let productions = lists.iter().map(|pairs| step(pairs, k));
+    grammar.productions.extend(productions);
+    grammar
+}
+
+fn straight(k: usize) -> Vec<(usize, usize)> {
+    (0..k).map(|j| (j, j)).collect()
+}
+
+fn cycle(k: usize) -> Vec<(usize, usize)> {
+    (0..k).map(|j| (j, (j + 1) % k)).collect()
+}
+
+fn swap(k: usize) -> Vec<(usize, usize)> {
+    let mut pairs = straight(k);
+    pairs[0] = (0, 1);
+    pairs[1] = (1, 0);
+    pairs
+}
+
+/// S_k, k from 2 to 4: a cycle and a swap, so k! graphs of X.
+pub fn family_s(k: usize) -> Grammar {
+    steps(k, &[cycle(k), swap(k)])
+}
+
+/// T_k, k from 2 to 4: S_k and a step that leads the parent's inherited 0 and
+/// 1 both to the child's 0, so k to the power k graphs of X.
+pub fn family_t(k: usize) -> Grammar {
+    let mut merge = straight(k);
+    merge[1] = (1, 0);
+    steps(k, &[cycle(k), swap(k), merge])
+}
+
+/// As T_k, but the child's inherited 0 and 1 both take from the parent's 0.
+/// The graphs are as many, found in another order.
+pub fn family_t_spread(k: usize) -> Grammar {
+    let mut spread = straight(k);
+    spread[1] = (0, 1);
+    steps(k, &[cycle(k), swap(k), spread])
+}
+
+/// U_k, k from 1 to 4: a leaf for each pair, and X → X X that joins both, so
+/// every graph of one or more pairs.
+pub fn family_u(k: usize) -> Grammar {
+    let mut grammar = family(k);
+    for i in 0..k {
+        for j in 0..k {
+            grammar.productions.push(leaf(&[(i, j)], k));
+        }
+    }
+    let mut edges = Vec::new();
+    for child in [1, 2] {
+        edges.extend((0..k).map(|j| (0, j, child, j)));
+        edges.extend((k..2 * k).map(|j| (child, j, 0, j)));
+    }
+    grammar.productions.push(production(X, &[X, X], &edges));
+    grammar
+}
+
+/// T_4 with a symbol that has six X and a symbol without a finite tree on its
+/// right: no combination, however many entries X has.
+pub fn starved() -> Grammar {
+    let mut grammar = family_t(4);
+    let (whole, never) = (grammar.symbols.len(), grammar.symbols.len() + 1);
+    grammar.symbols.push(symbol(""));
+    grammar.symbols.push(symbol(""));
+    let right = [X, X, X, X, X, X, never];
+    grammar.productions.push(production(whole, &right, &[]));
+    grammar
+}
+
+/// The grammars that are written out as samples, with their names.
+pub fn samples() -> Vec<(&'static str, Grammar)> {
+    vec![
+        ("a", a()),
+        ("b", b()),
+        ("c", c()),
+        ("r", r()),
+        ("empty", empty()),
+        ("knuth", knuth()),
+        ("figure1", figure_1()),
+        ("figure1-circular", figure_1_circular()),
+        ("chebotar", chebotar()),
+        ("chebotar-finite", chebotar_finite()),
+        ("s3", family_s(3)),
+        ("t4", family_t(4)),
+        ("u3", family_u(3)),
+    ]
+}

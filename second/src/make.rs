@@ -1,0 +1,353 @@
+//! Makes tables from a seed: the same seed gives the same table.
+
+use crate::damage::{self, damage};
+use crate::known;
+use crate::random::Random;
+use crate::table::{
+    self, Edge, Grammar, Production, Symbol, MOST_ATTRIBUTES, MOST_EDGES, MOST_PRODUCTIONS,
+    MOST_RIGHT, MOST_SYMBOLS,
+};
+use std::collections::BTreeSet;
+
+/// What a random grammar looks like. Fewer edges come out where the
+/// productions allow few.
+pub struct Shape {
+    pub symbols: usize,
+    pub productions: usize,
+    pub edges: usize,
+    /// The fewest and the most attributes of a symbol.
+    pub attributes: (usize, usize),
+    /// The fewest and the most right symbols of a production; where none are
+    /// allowed, a third of the productions have none.
+    pub right: (usize, usize),
+    /// Whether each symbol has a production without right symbols, as far as
+    /// the productions suffice. Otherwise many have no finite tree.
+    pub grounded: bool,
+}
+
+/// A mix of all kinds below.
+pub fn case(seed: u64) -> Vec<u8> {
+    let random = &mut Random::new(seed);
+    let inner = random.draw();
+    match random.below(16) {
+        0..=2 => tiny(inner),
+        3..=5 => lively(inner),
+        6..=7 => small(inner),
+        8 => large(inner),
+        9 => border(inner),
+        10 => known_table(inner),
+        11 => maps(inner),
+        _ => damaged(inner),
+    }
+}
+
+/// A limit and a room to run a case with: small ones, so that runs end out
+/// of steps or out of room, and large ones.
+pub fn limits(seed: u64) -> (u32, usize) {
+    // Not the draws by which `case` chooses its kind.
+    let random = &mut Random::new(!seed);
+    let limit = match random.below(4) {
+        0 => random.below(6),
+        1 => random.below(60),
+        2 => random.below(2000),
+        _ => 10_000,
+    };
+    let room = match random.below(4) {
+        0 => random.below(4),
+        1 => random.below(20),
+        2 => random.below(300),
+        _ => *random.pick(&[1024, 4095, 4096, 4097, 10_000]),
+    };
+    (limit as u32, room)
+}
+
+/// A taken table of any kind.
+pub fn valid(seed: u64) -> Vec<u8> {
+    let random = &mut Random::new(seed);
+    let inner = random.draw();
+    match random.below(16) {
+        0..=3 => tiny(inner),
+        4..=7 => lively(inner),
+        8..=10 => small(inner),
+        11 => large(inner),
+        12 => border(inner),
+        13 => known_table(inner),
+        _ => maps(inner),
+    }
+}
+
+/// Small enough to try its flat trees.
+pub fn tiny(seed: u64) -> Vec<u8> {
+    let random = &mut Random::new(seed);
+    let shape = Shape {
+        symbols: random.between(1, 3),
+        productions: random.between(0, 6),
+        edges: random.between(0, 12),
+        attributes: (0, 3),
+        right: (0, 2),
+        grounded: random.once_in(2),
+    };
+    table::write(&grammar(random, &shape))
+}
+
+/// Few symbols, each with attributes and a finite tree, so that the passes
+/// have something to do.
+pub fn lively(seed: u64) -> Vec<u8> {
+    let random = &mut Random::new(seed);
+    let symbols = random.between(1, 4);
+    let shape = Shape {
+        symbols,
+        productions: symbols + random.between(2, 8),
+        edges: random.between(6, 24),
+        attributes: (2, 4),
+        right: (1, 2),
+        grounded: true,
+    };
+    table::write(&grammar(random, &shape))
+}
+
+pub fn small(seed: u64) -> Vec<u8> {
+    let random = &mut Random::new(seed);
+    let shape = Shape {
+        symbols: random.between(1, 8),
+        productions: random.between(1, 20),
+        edges: random.between(0, 60),
+        attributes: (0, MOST_ATTRIBUTES),
+        right: (0, random.between(1, 4)),
+        grounded: random.once_in(2),
+    };
+    table::write(&grammar(random, &shape))
+}
+
+pub fn large(seed: u64) -> Vec<u8> {
+    let random = &mut Random::new(seed);
+    let shape = Shape {
+        symbols: random.between(1, MOST_SYMBOLS),
+        productions: random.between(1, MOST_PRODUCTIONS),
+        edges: random.between(0, MOST_EDGES),
+        attributes: (0, MOST_ATTRIBUTES),
+        right: (0, random.between(1, MOST_RIGHT)),
+        grounded: random.once_in(2),
+    };
+    table::write(&grammar(random, &shape))
+}
+
+/// How many borders there are.
+pub const BORDERS: usize = 8;
+
+/// A table at one of the borders.
+pub fn border(seed: u64) -> Vec<u8> {
+    let random = &mut Random::new(seed);
+    let which = random.below(BORDERS);
+    border_of(random, which)
+}
+
+/// A table at this border: 7 right symbols, 8 attributes, 256 symbols, 512
+/// productions, 8,192 edges, all of them (58,904 bytes), one symbol and
+/// nothing else, and many entries beside a symbol that has none.
+pub fn border_of(random: &mut Random, which: usize) -> Vec<u8> {
+    let usual = Shape {
+        symbols: random.between(2, 6),
+        productions: random.between(2, 10),
+        edges: random.between(0, 30),
+        attributes: (0, MOST_ATTRIBUTES),
+        right: (0, 3),
+        grounded: false,
+    };
+    let shape = match which {
+        0 => Shape {
+            right: (MOST_RIGHT, MOST_RIGHT),
+            ..usual
+        },
+        1 => Shape {
+            attributes: (MOST_ATTRIBUTES, MOST_ATTRIBUTES),
+            ..usual
+        },
+        2 => Shape {
+            symbols: MOST_SYMBOLS,
+            ..usual
+        },
+        3 => Shape {
+            productions: MOST_PRODUCTIONS,
+            ..usual
+        },
+        4 => Shape {
+            productions: random.between(64, MOST_PRODUCTIONS),
+            edges: MOST_EDGES,
+            attributes: (6, MOST_ATTRIBUTES),
+            right: (3, MOST_RIGHT),
+            ..usual
+        },
+        5 => Shape {
+            symbols: MOST_SYMBOLS,
+            productions: MOST_PRODUCTIONS,
+            edges: MOST_EDGES,
+            attributes: (1, MOST_ATTRIBUTES),
+            right: (0, MOST_RIGHT),
+            grounded: random.once_in(2),
+        },
+        6 => return table::write(&known::empty()),
+        _ => return table::write(&known::starved()),
+    };
+    table::write(&grammar(random, &shape))
+}
+
+/// One of the grammars with known counts, or a family.
+pub fn known_table(seed: u64) -> Vec<u8> {
+    let random = &mut Random::new(seed);
+    let mut grammars: Vec<_> = known::samples().into_iter().map(|(_, g)| g).collect();
+    for k in 2..=4 {
+        grammars.push(known::family_s(k));
+        grammars.push(known::family_t(k));
+        grammars.push(known::family_t_spread(k));
+        grammars.push(known::family_u(k));
+    }
+    table::write(random.pick(&grammars))
+}
+
+/// Like T_k with random steps: many entries, long runs, no circle.
+pub fn maps(seed: u64) -> Vec<u8> {
+    let random = &mut Random::new(seed);
+    let k = random.between(2, 4);
+    let count = random.between(1, 4);
+    let mut lists = Vec::new();
+    for _ in 0..count {
+        let mut pairs: BTreeSet<_> = (0..k).map(|j| (j, random.below(k))).collect();
+        if random.once_in(4) {
+            pairs.insert((random.below(k), random.below(k)));
+        }
+        lists.push(pairs.into_iter().collect());
+    }
+    table::write(&known::steps(k, &lists))
+}
+
+/// A table damaged in one of many ways; now and then it is still taken.
+pub fn damaged(seed: u64) -> Vec<u8> {
+    let random = &mut Random::new(seed);
+    let kind = *random.pick(&damage::ALL);
+    let table = valid(random.draw());
+    damage(random, &table, kind)
+}
+
+/// A random grammar that keeps the rules.
+pub fn grammar(random: &mut Random, shape: &Shape) -> Grammar {
+    let symbols: Vec<_> = (0..shape.symbols)
+        .map(|_| symbol(random, shape.attributes))
+        .collect();
+    let mut productions: Vec<_> = (0..shape.productions)
+        .map(|_| production(random, shape))
+        .collect();
+    if shape.grounded {
+        for (symbol, production) in productions.iter_mut().enumerate().take(shape.symbols) {
+            production.left = symbol;
+            production.right.clear();
+        }
+        random.shuffle(&mut productions);
+    }
+    let mut grammar = Grammar {
+        start: random.below(shape.symbols),
+        symbols,
+        productions,
+    };
+    add_edges(random, &mut grammar, shape.edges);
+    grammar
+}
+
+fn symbol(random: &mut Random, (fewest, most): (usize, usize)) -> Symbol {
+    let count = random.between(fewest, most);
+    Symbol {
+        inherited: (0..count).map(|_| random.once_in(2)).collect(),
+    }
+}
+
+fn production(random: &mut Random, shape: &Shape) -> Production {
+    let (fewest, most) = shape.right;
+    let n = if fewest == 0 && random.once_in(3) {
+        0
+    } else {
+        random.between(fewest, most)
+    };
+    Production {
+        left: random.below(shape.symbols),
+        right: (0..n).map(|_| random.below(shape.symbols)).collect(),
+        edges: Vec::new(),
+    }
+}
+
+/// An occurrence and an attribute.
+type Place = (usize, usize);
+
+/// What edges take from. Any attribute makes most grammars circular at once;
+/// one that the production does not set makes circles need a subtree; with
+/// an occurrence before the target's there is none, and more graphs.
+#[derive(Clone, Copy, PartialEq, Eq)]
+enum Taking {
+    Any,
+    Unset,
+    Earlier,
+}
+
+fn add_edges(random: &mut Random, grammar: &mut Grammar, wanted: usize) {
+    if grammar.productions.is_empty() {
+        return;
+    }
+    let modes = [Taking::Any, Taking::Unset, Taking::Unset, Taking::Earlier];
+    let taking = *random.pick(&modes);
+    let strays = random.once_in(2);
+    let ends: Vec<_> = grammar
+        .productions
+        .iter()
+        .map(|production| ends(grammar, production, taking))
+        .collect();
+    let mut edges = BTreeSet::new();
+    // Some draws are lost, so there are more of them.
+    for _ in 0..8 * wanted {
+        if edges.len() == wanted {
+            break;
+        }
+        let production = random.below(ends.len());
+        let (sources, targets) = &ends[production];
+        if sources.is_empty() || targets.is_empty() {
+            continue;
+        }
+        let (source, target) = (*random.pick(sources), *random.pick(targets));
+        let backward = target.0 > 0 && source.0 >= target.0;
+        let stray = strays && random.once_in(20);
+        if taking == Taking::Earlier && backward && !stray {
+            continue;
+        }
+        edges.insert((production, edge(source, target)));
+    }
+    for (production, edge) in edges {
+        grammar.productions[production].edges.push(edge);
+    }
+}
+
+fn edge(source: Place, target: Place) -> Edge {
+    Edge {
+        source_occurrence: source.0,
+        source_attribute: source.1,
+        target_occurrence: target.0,
+        target_attribute: target.1,
+    }
+}
+
+/// The sources and the targets that a production's edges may have.
+fn ends(grammar: &Grammar, production: &Production, taking: Taking) -> (Vec<Place>, Vec<Place>) {
+    let mut sources = Vec::new();
+    let mut targets = Vec::new();
+    for occurrence in 0..=production.right.len() {
+        for attribute in 0..MOST_ATTRIBUTES {
+            let kind = table::inherited(grammar, production, occurrence, attribute);
+            let Some(inherited) = kind else { continue };
+            let is_target = inherited == (occurrence > 0);
+            if is_target {
+                targets.push((occurrence, attribute));
+            }
+            if !is_target || taking == Taking::Any {
+                sources.push((occurrence, attribute));
+            }
+        }
+    }
+    (sources, targets)
+}

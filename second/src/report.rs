@@ -1,0 +1,55 @@
+//! What `circ` prints.
+
+use crate::passes::{run_grammar, Answer, Outcome};
+use crate::table::{self, Grammar};
+use std::fmt::Write;
+
+/// The whole report on a table.
+pub fn report(table: &[u8], limit: u32, room: usize) -> String {
+    match table::read(table) {
+        Ok(grammar) => print(&grammar, &run_grammar(&grammar, limit, room)),
+        Err(number) => format!("refused {number}\n"),
+    }
+}
+
+/// The report on a run of this grammar.
+pub fn print(grammar: &Grammar, outcome: &Outcome) -> String {
+    let mut text = format!(
+        "{} closures {} entries {} passes {}\n",
+        word(outcome.answer),
+        outcome.closures,
+        outcome.entries(),
+        outcome.passes,
+    );
+    for (number, entry) in outcome.stored.iter().enumerate() {
+        let kids = kids(grammar, entry.production, &entry.kids);
+        let (symbol, production, graph) = (entry.symbol, entry.production, entry.graph);
+        let line = format!("entry {number} symbol {symbol} production {production}");
+        let _ = writeln!(text, "{line} kids{kids} graph {graph}");
+    }
+    if outcome.answer == Answer::Circular {
+        let production = outcome.root_production;
+        let kids = kids(grammar, production, &outcome.root_kids);
+        let _ = writeln!(text, "root production {production} kids{kids}");
+    }
+    text
+}
+
+fn word(answer: Answer) -> &'static str {
+    match answer {
+        Answer::Noncircular => "noncircular",
+        Answer::Circular => "circular",
+        Answer::Refused(_) => "refused",
+        Answer::OutOfSteps => "out-of-steps",
+        Answer::OutOfRoom => "out-of-room",
+    }
+}
+
+/// The entry numbers that count, each after a blank.
+fn kids(grammar: &Grammar, production: usize, slots: &[usize]) -> String {
+    let n = grammar.productions[production].right.len();
+    slots[..n]
+        .iter()
+        .map(|number| format!(" {number}"))
+        .collect()
+}
