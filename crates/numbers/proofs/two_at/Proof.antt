@@ -1,0 +1,47 @@
+-- `numbers::two_at` meets its contract. Assumes nothing.
+use borrow.Author.Needs.{needs}
+use mathlib.Core.Path.{sym}
+use Rattle.numbers.proofs.Bytes.{le2-past}
+use Rattle.numbers.proofs.two_at.Statement.{statement}
+use Rattle.numbers.proofs.two_at.Tie as tie
+
+returns : tie.Need-returns
+returns c = sym (le2-past (c .before .before .args .b .now) (c .before .before .args .i) (c .if1 .taken))
+
+byte-at-requires : tie.Need-byte-at-requires
+byte-at-requires c κs = search needs
+
+wide16-requires : tie.Need-wide16-requires
+wide16-requires c κs = search needs
+
+add-byte-at : tie.Need-add-byte-at
+add-byte-at c = search needs
+
+byte-at-requires-2 : tie.Need-byte-at-requires-2
+byte-at-requires-2 c κs = search needs
+
+wide16-requires-2 : tie.Need-wide16-requires-2
+wide16-requires-2 c κs = search needs
+
+mul-result : tie.Need-mul-result
+mul-result c = search needs
+
+add-result : tie.Need-add-result
+add-result c = search needs
+
+returns-2 : tie.Need-returns-2
+returns-2 c = search needs
+
+pub two-at-spec : {M : Type 1} → statement M
+two-at-spec =
+    tie.close
+    (tie.spec
+    returns
+    byte-at-requires
+    wide16-requires
+    add-byte-at
+    byte-at-requires-2
+    wide16-requires-2
+    mul-result
+    add-result
+    returns-2)
