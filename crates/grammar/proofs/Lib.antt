@@ -1,0 +1,3 @@
+-- Laws and theorems about the table.
+pub mod Lookups
+pub mod Seeking

@@ -1,0 +1,69 @@
+-- What stands at a number of the grammar that some bytes say, and how many records it has. Assumes nothing.
+use mathlib.Core.Path.{_≡_, refl, sym, _∙_}
+use mathlib.Core.List.{List, [], _∷_, map}
+use Prim.Native.Nat.{ℕ, _+_, _*_, _≤_, _<_}
+use native.Mathlib.Nat.{add-zero, add-assoc}
+use native.Mathlib.Omega.{arith}
+use lib.ListN.{length, length-map}
+use Rattle.numbers.specs.Number.{le2}
+use Rattle.numbers.specs.Lists.{upFrom}
+use Rattle.numbers.proofs.Bytes.{byte-past, le2-past}
+use Rattle.numbers.proofs.Ranges.{length-upFrom, at-below, at-past}
+use Rattle.grammar.specs.Grammar.{Grammar, symbol, production, noSymbol, noProduction}
+use Rattle.grammar.specs.Table.{N, P, E, atSymbols, atProductions, atEdges, symbolIn, productionIn, edgeIn, grammarOf}
+use Rattle.grammar.specs.Rules.{edge, noEdge}
+
+module _ (bs : List ℕ) where
+  pub symbol-there : (s : ℕ) → s < N bs → symbol (grammarOf bs) s ≡ symbolIn bs (atSymbols + 2 * s)
+  unfolding grammarOf
+  symbol-there s h = at-below _ noSymbol (N bs) s h
+
+  pub symbol-none : (s : ℕ) → N bs ≤ s → symbol (grammarOf bs) s ≡ noSymbol
+  unfolding grammarOf
+  symbol-none s h = at-past _ noSymbol (N bs) s h
+
+  pub production-there : (p : ℕ) → p < P bs → production (grammarOf bs) p ≡ productionIn bs (atProductions bs + 18 * p)
+  unfolding grammarOf
+  production-there p h = at-below _ noProduction (P bs) p h
+
+  pub production-none : (p : ℕ) → P bs ≤ p → production (grammarOf bs) p ≡ noProduction
+  unfolding grammarOf
+  production-none p h = at-past _ noProduction (P bs) p h
+
+  pub edge-there : (i : ℕ) → i < E bs → edge (grammarOf bs) i ≡ edgeIn bs (atEdges bs + 6 * i)
+  unfolding grammarOf
+  edge-there i h = at-below _ noEdge (E bs) i h
+
+  pub productions-many : length (grammarOf bs .productions) ≡ P bs
+  unfolding grammarOf
+  productions-many = length-map (upFrom 0 (P bs)) _ ∙ length-upFrom 0 (P bs)
+
+  pub edges-many : length (grammarOf bs .edges) ≡ E bs
+  unfolding grammarOf
+  edges-many = length-map (upFrom 0 (E bs)) _ ∙ length-upFrom 0 (E bs)
+
+  pub edge-past : (i : ℕ) → length bs ≤ i → edgeIn bs i ≡ noEdge
+  unfolding edgeIn
+  edge-past i h =
+      cc (
+        le2-past bs i h,
+        byte-past bs (i + 2) (omega arith),
+        byte-past bs (i + 2 + 1) (omega arith),
+        byte-past bs (i + 4) (omega arith),
+        byte-past bs (i + 4 + 1) (omega arith),
+      )
+
+  -- the seven slots, one by one
+  pub slots-are :
+      (i : ℕ)
+      → productionIn bs i .slots
+      ≡ le2 bs (i + 4)
+      ∷ le2 bs (i + 6)
+      ∷ le2 bs (i + 8)
+      ∷ le2 bs (i + 10)
+      ∷ le2 bs (i + 12)
+      ∷ le2 bs (i + 14)
+      ∷ le2 bs (i + 16)
+      ∷ []
+  unfolding productionIn upFrom
+  slots-are i = simp (add-zero, add-assoc)

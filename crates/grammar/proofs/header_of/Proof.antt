@@ -1,0 +1,24 @@
+-- `grammar::header_of` meets its contract. Assumes nothing.
+use borrow.Author.Needs.{needs}
+use Rattle.grammar.proofs.header_of.Statement.{statement}
+use Rattle.grammar.proofs.header_of.Tie as tie
+
+two-at-requires : tie.Need-two-at-requires
+two-at-requires c κs = search needs
+
+two-at-requires-2 : tie.Need-two-at-requires-2
+two-at-requires-2 c κs = search needs
+
+two-at-requires-3 : tie.Need-two-at-requires-3
+two-at-requires-3 c κs = search needs
+
+two-at-requires-4 : tie.Need-two-at-requires-4
+two-at-requires-4 c κs = search needs
+
+returns : tie.Need-returns
+returns c = cc
+
+pub header-of-spec : {M : Type 1} → statement M
+header-of-spec =
+    tie.close
+    (tie.spec two-at-requires two-at-requires-2 two-at-requires-3 two-at-requires-4 returns)

@@ -1,0 +1,50 @@
+-- `grammar::production_of` meets its contract. Assumes nothing.
+use mathlib.Core.Path.{sym, ap}
+use native.Mathlib.Omega.{arith}
+use Rattle.grammar.proofs.Lookups.{production-there, production-none}
+use borrow.Author.Needs.{needs}
+use Rattle.grammar.proofs.production_of.Statement.{statement}
+use Rattle.grammar.proofs.production_of.Tie as tie
+
+header-of-requires : tie.Need-header-of-requires
+header-of-requires c κs = search needs
+
+wide-requires : tie.Need-wide-requires
+wide-requires c κs = search needs
+
+returns : tie.Need-returns
+returns c =
+    let e = ap (λ h. h .productions) (c .before .before .header-of .ensures) in
+    sym (production-none (c .before .before .before .before .args .table .now) (c .before .before .before .before .args .p) (omega arith))
+
+at-productions-requires : tie.Need-at-productions-requires
+at-productions-requires c κs = search needs
+
+mul-production-in : tie.Need-mul-production-in
+mul-production-in c = search needs
+
+add-production-in : tie.Need-add-production-in
+add-production-in c = search needs
+
+production-in-requires : tie.Need-production-in-requires
+production-in-requires c κs = search needs
+
+returns-2 : tie.Need-returns-2
+returns-2 c =
+    let h = c .before .before .before .before .header-of .ensures in
+    let e = ap (λ h. h .productions) h in
+    let s = ap (λ h. h .symbols) h in
+    cc (production-there (c .before .before .before .before .before .before .args .table .now) (c .before .before .before .before .before .before .args .p) (omega arith))
+
+pub production-of-spec : {M : Type 1} → statement M
+production-of-spec =
+    tie.close
+    (tie.spec
+    header-of-requires
+    wide-requires
+    returns
+    at-productions-requires
+    mul-production-in
+    add-production-in
+    production-in-requires
+    returns-2)

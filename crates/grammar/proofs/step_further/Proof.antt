@@ -1,0 +1,75 @@
+-- `grammar::step_further` meets its contract. Assumes nothing.
+use Rattle.grammar.specs.Reading.{producing}
+use Rattle.grammar.proofs.Seeking.{further-few, further-on, further-not}
+use Prim.Native.Nat.{_+_, _-_}
+use native.Mathlib.Omega.{arith}
+use mathlib.Core.Path.{_≡_, sym, ap}
+use borrow.Author.Needs.{needs}
+use Rattle.grammar.proofs.step_further.Statement.{statement}
+use Rattle.grammar.proofs.step_further.Tie as tie
+
+add-next : tie.Need-add-next
+add-next c = search needs
+
+wide-requires : tie.Need-wide-requires
+wide-requires c κs = search needs
+
+returns : tie.Need-returns
+returns c =
+    let a = c .before .before .before .args in
+    let e = ap (λ h. h .edges) (c .before .before .before .pre .0) in
+    sym (further-few (a .table .now) (a .p) (a .step) (a .at) (omega arith))
+
+at-edges-requires : tie.Need-at-edges-requires
+at-edges-requires c κs = search needs
+
+sub-two-at : tie.Need-sub-two-at
+sub-two-at c = search needs
+
+mul-two-at : tie.Need-mul-two-at
+mul-two-at c = search needs
+
+add-two-at : tie.Need-add-two-at
+add-two-at c = search needs
+
+two-at-requires : tie.Need-two-at-requires
+two-at-requires c κs = search needs
+
+wide-requires-2 : tie.Need-wide-requires-2
+wide-requires-2 c κs = search needs
+
+returns-2 : tie.Need-returns-2
+returns-2 c =
+    let a = c .before .before .before .before .before .before .before .args in
+    let h = c .before .before .before .before .before .before .before .pre .0 in
+    let e = ap (λ h. h .edges) h in
+    let at = ap (λ h. h .symbols) h in
+    let more = ap (λ h. h .productions) h in
+    let last : c .before .before .two-at .result ≡ producing (a .table .now) (a .at + a .step - 1) = cc in
+    sym (further-on (a .table .now) (a .p) (a .step) (a .at) (omega arith) (omega arith))
+
+returns-3 : tie.Need-returns-3
+returns-3 c =
+    let a = c .before .before .before .before .before .before .before .args in
+    let h = c .before .before .before .before .before .before .before .pre .0 in
+    let e = ap (λ h. h .edges) h in
+    let at = ap (λ h. h .symbols) h in
+    let more = ap (λ h. h .productions) h in
+    let last : c .before .before .two-at .result ≡ producing (a .table .now) (a .at + a .step - 1) = cc in
+    sym (further-not (a .table .now) (a .p) (a .step) (a .at) (omega arith) (omega arith))
+
+pub step-further-spec : {M : Type 1} → statement M
+step-further-spec =
+    tie.close
+    (tie.spec
+    add-next
+    wide-requires
+    returns
+    at-edges-requires
+    sub-two-at
+    mul-two-at
+    add-two-at
+    two-at-requires
+    wide-requires-2
+    returns-2
+    returns-3)

@@ -1,0 +1,54 @@
+-- `grammar::symbol_of` meets its contract. Assumes nothing.
+use mathlib.Core.Path.{sym}
+use native.Mathlib.Omega.{arith}
+use Rattle.grammar.proofs.Lookups.{symbol-there, symbol-none}
+use Rattle.grammar.specs.Table.{symbolIn}
+use borrow.Author.Needs.{needs}
+use Rattle.grammar.proofs.symbol_of.Statement.{statement}
+use Rattle.grammar.proofs.symbol_of.Tie as tie
+
+two-at-requires : tie.Need-two-at-requires
+two-at-requires c κs = search needs
+
+wide-requires : tie.Need-wide-requires
+wide-requires c κs = search needs
+
+returns : tie.Need-returns
+returns c = sym (symbol-none (c .before .before .before .before .args .table .now) (c .before .before .before .before .args .s) (omega arith))
+
+mul-at : tie.Need-mul-at
+mul-at c = search needs
+
+add-at : tie.Need-add-at
+add-at c = search needs
+
+byte-at-requires : tie.Need-byte-at-requires
+byte-at-requires c κs = search needs
+
+add-byte-at : tie.Need-add-byte-at
+add-byte-at c = search needs
+
+byte-at-requires-2 : tie.Need-byte-at-requires-2
+byte-at-requires-2 c κs = search needs
+
+cast-t5 : tie.Need-cast-t5
+cast-t5 c = search needs
+
+returns-2 : tie.Need-returns-2
+unfolding symbolIn
+returns-2 c = cc (symbol-there (c .before .before .before .before .before .before .args .table .now) (c .before .before .before .before .before .before .args .s) (omega arith))
+
+pub symbol-of-spec : {M : Type 1} → statement M
+symbol-of-spec =
+    tie.close
+    (tie.spec
+    two-at-requires
+    wide-requires
+    returns
+    mul-at
+    add-at
+    byte-at-requires
+    add-byte-at
+    byte-at-requires-2
+    cast-t5
+    returns-2)
