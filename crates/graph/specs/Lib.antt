@@ -1,2 +1,3 @@
 -- Graphs as rows of bits: the compound graph, its closure, the circle test, the graph of the root.
 pub mod Rows
+pub mod Compound

@@ -1,0 +1,220 @@
+-- Which edges a compound graph has: the edges given, and the pairs of each subtree's graph at its occurrence. Over the number w of attributes.
+-- Assumes nothing.
+use mathlib.Core.Path.{_≡_, refl, sym, ap, _∙_, subst}
+use mathlib.Core.Bool.{true}
+use mathlib.Core.List.{List, [], _∷_, List·Memᴰ, List·Memᴰ·head, List·Memᴰ·tail, List·Memᴰ·cases-cons, List·Memᴰ·not-nil}
+use mathlib.Core.Logic.{_⊎_, inl, inr, ⊎-elim, _↔_}
+use Prim.Native.Nat.{ℕ, zero, suc, _+_, _*_, _/_, _^_, _≤_, _<_}
+use native.Mathlib.Nat.{add-zero, mul-suc, mul-le-mul-left}
+use native.Mathlib.Decide.{ℕ-discrete}
+use native.Mathlib.Numerals.{one-add}
+use native.Mathlib.Omega.{arith}
+use lib.Bits.{bitOr}
+use lib.ListN.{length, getD, replicate, length-set, length-replicate}
+use lib.Seq.{getD-set-same, getD-set-other}
+use Rattle.numbers.specs.Number.{bit}
+use Rattle.numbers.specs.Paths.{Plus, Circle, Leads}
+use Rattle.numbers.proofs.Bits.{bit-lt, bit-zero, bit-or, bit-down, bit-power, one-of, block-bit, block-made}
+use Rattle.numbers.proofs.Ways.{carried}
+use Rattle.grammar.specs.declared.Node.{Node}
+use Rattle.grammar.specs.declared.Edge.{Edge}
+use Rattle.graph.specs.Rows.{node, bits, joinAt, link, own, pairsFrom, placedTo, placed, placedFrom, compound, closure, hasCircle, rootGraph}
+use Rattle.graph.specs.Compound.{Within, EdgesWithin, OwnEdge, PairTo, Pair, SubtreePair, CompoundEdge}
+use Rattle.graph.proofs.Turns.{link-there, length-link}
+use Rattle.graph.proofs.Closure.{circle-path}
+use Rattle.graph.proofs.Root.{root-path}
+
+-- ---- x joined into row p
+
+module _ (p x : ℕ) (rows : List ℕ) (l : p < length rows) (i j : ℕ) where
+  abbrev Joined : Type 0
+  Joined = Leads (bits rows) i j ⊎ ((i ≡ p) × (bit j x ≡ 1))
+
+  pub join-leads : Leads (bits (joinAt p x rows)) i j ↔ Joined
+  join-leads = go (ℕ-discrete i p)
+    where
+      go : Dec (i ≡ p) → Leads (bits (joinAt p x rows)) i j ↔ Joined
+      go (yes e) =
+          let b = bit-or j (getD rows i 0) x in
+          let s : bits (joinAt p x rows) i j ≡ bit j (bitOr (getD rows i 0) x) = rw (e, getD-set-same rows p (bitOr (getD rows p 0) x) 0 l) in (
+            λ h. ⊎-elim inl (λ q. inr (e, q)) (one-of (bits rows i j) (bit j x) (sym b ∙ sym s ∙ h)),
+            ⊎-elim (λ h. omega (arith, s, b, bit-lt j x)) (λ h. omega (arith, s, b, bit-lt j (getD rows i 0), h .1)),
+          )
+      go (no f) =
+          let s : bits (joinAt p x rows) i j ≡ bits rows i j = ap (bit j) (getD-set-other rows p i (bitOr (getD rows p 0) x) 0 f) in
+          (λ h. inl (sym s ∙ h), ⊎-elim (λ h. s ∙ h) (λ h. absurd (f (h .0))))
+
+-- ---- the edges given
+
+pub link-leads : (s t : ℕ) (rows : List ℕ) → s < length rows → t < length rows
+    → (i j : ℕ) → Leads (bits (link s t rows)) i j ↔ (Leads (bits rows) i j ⊎ ((i ≡ s) × (j ≡ t)))
+link-leads s t rows ls lt i j =
+    let e = link-there s t rows lt in
+    let k = join-leads s (2 ^ t) rows ls i j in
+    let p = bit-power t j in (
+      λ h. ⊎-elim inl (λ q. inr (q .0, p .0 (q .1))) (k .0 (rw e at h)),
+      λ h. rw e (k .1 (⊎-elim inl (λ q. inr (q .0, p .1 (q .1))) h)),
+    )
+
+-- the edges' nodes are below n
+abbrev pub NodesBelow : ℕ → ℕ → List Edge → Type 0
+NodesBelow w n es = (e : Edge) → List·Memᴰ e es → (node w (e .source) < n) × (node w (e .target) < n)
+
+pub node-lt : (w n : ℕ) (x : Node) → Within w n x → node w x < w * suc n
+node-lt w n x h = omega (arith, h .attribute, mul-suc w n, mul-le-mul-left w (h .occurrence))
+
+pub nodes-below : (w n : ℕ) (es : List Edge) → EdgesWithin w n es → NodesBelow w (w * suc n) es
+nodes-below w n es h e m = (node-lt w n (e .source) (h e m .0), node-lt w n (e .target) (h e m .1))
+
+pub length-own : (w : ℕ) (es : List Edge) (rows : List ℕ) → length (own w es rows) ≡ length rows
+unfolding own
+length-own w [] rows = refl
+length-own w (e ∷ es) rows =
+    length-own w es (link (node w (e .source)) (node w (e .target)) rows) ∙ length-link (node w (e .source)) (node w (e .target)) rows
+
+pub own-leads : (w : ℕ) (es : List Edge) (rows : List ℕ) → NodesBelow w (length rows) es
+    → (i j : ℕ) → Leads (bits (own w es rows)) i j ↔ (Leads (bits rows) i j ⊎ OwnEdge w es i j)
+unfolding own
+own-leads w [] rows below i j = (inl, ⊎-elim (λ h. h) (λ h. absurd (List·Memᴰ·not-nil (h .given))))
+own-leads w (e ∷ es) rows below i j =
+    let s = node w (e .source) in
+    let t = node w (e .target) in
+    let here = below e (List·Memᴰ·head refl) in
+    let first = link-leads s t rows (here .0) (here .1) i j in
+    let rest =
+    own-leads w es (link s t rows)
+    (λ f m. subst (λ (n : ℕ). (node w (f .source) < n) × (node w (f .target) < n)) (sym (length-link s t rows)) (below f (List·Memᴰ·tail m)))
+    i j in (
+      λ h.
+          ⊎-elim
+          (λ q. ⊎-elim inl (λ r. inr (record { edge = e; given = List·Memᴰ·head refl; from = r .0; to = r .1 })) (first .0 q))
+          (λ q. inr (record { edge = q .edge; given = List·Memᴰ·tail (q .given); from = q .from; to = q .to }))
+          (rest .0 h),
+      ⊎-elim (λ h. rest .1 (inl (first .1 (inl h))))
+          (λ q.
+          ⊎-elim
+          (λ r. rest .1 (inl (first .1 (inr (q .from ∙ ap (λ (f : Edge). node w (f .source)) r, q .to ∙ ap (λ (f : Edge). node w (f .target)) r)))))
+          (λ m. rest .1 (inr (record { edge = q .edge; given = m; from = q .from; to = q .to })))
+          (List·Memᴰ·cases-cons (q .given))),
+    )
+
+-- ---- a subtree's pairs
+
+pub length-placed : (w o g c : ℕ) (rows : List ℕ) → length (placedTo w o g c rows) ≡ length rows
+unfolding placedTo
+length-placed w o g zero rows = refl
+length-placed w o g (suc c) rows = length-set (placedTo w o g c rows) (w * o + c) _ ∙ length-placed w o g c rows
+
+pub placed-leads : (w o g c : ℕ) (rows : List ℕ) → w * o + c ≤ length rows
+    → (i j : ℕ) → Leads (bits (placedTo w o g c rows)) i j ↔ (Leads (bits rows) i j ⊎ PairTo w c o g i j)
+unfolding placedTo
+placed-leads w o g zero rows l i j = (inl, ⊎-elim (λ h. h) (λ h. absurd (omega (arith, h .a-lt))))
+placed-leads w o g (suc c) rows l i j =
+    let k =
+    join-leads (w * o + c) (pairsFrom w c g * 2 ^ (w * o)) (placedTo w o g c rows) (omega (arith, length-placed w o g c rows)) i j in
+    let rest = placed-leads w o g c rows (omega arith) i j in (
+      λ h.
+          ⊎-elim
+          (λ q. ⊎-elim inl (λ r. inr (wider r)) (rest .0 q))
+          (λ q.
+          let r = block-bit w (w * o) (g / 2 ^ (w * c)) j (q .1) in
+          inr (record { a = c; b = r .0; a-lt = omega arith; b-lt = r .1; from = q .0; to = r .2; there = sym (bit-down (w * c) (r .0) g) ∙ r .3 }))
+          (k .0 h),
+      ⊎-elim (λ h. k .1 (inl (rest .1 (inl h)))) (λ q. last q (ℕ-discrete (q .a) c) (λ r. k .1 (inl (rest .1 (inr r)))) (λ r. k .1 (inr r))),
+    )
+  where
+    wider : PairTo w c o g i j → PairTo w (suc c) o g i j
+    wider r = record { a = r .a; b = r .b; a-lt = omega (arith, r .a-lt); b-lt = r .b-lt; from = r .from; to = r .to; there = r .there }
+
+    last : (q : PairTo w (suc c) o g i j) → Dec (q .a ≡ c) → {T : Type 0} → (PairTo w c o g i j → T)
+        → ((i ≡ w * o + c) × (bit j (pairsFrom w c g * 2 ^ (w * o)) ≡ 1) → T) → T
+    last q (yes e) one more =
+        more (
+          q .from ∙ ap (λ (a : ℕ). w * o + a) e,
+          rw (q .to) (block-made w (w * o) (g / 2 ^ (w * c)) (q .b) (q .b-lt) (bit-down (w * c) (q .b) g ∙ ap (λ (a : ℕ). bit (w * a + q .b) g) (sym e) ∙ q .there)),
+        )
+    last q (no f) one more =
+        one (record { a = q .a; b = q .b; a-lt = omega (arith, q .a-lt); b-lt = q .b-lt; from = q .from; to = q .to; there = q .there })
+
+-- ---- all subtrees' pairs
+
+pub length-placed-from : (w o : ℕ) (gs rows : List ℕ) → length (placedFrom w o gs rows) ≡ length rows
+unfolding placedFrom
+length-placed-from w o [] rows = refl
+length-placed-from w o (g ∷ gs) rows = length-placed-from w (suc o) gs (placed w o g rows) ∙ length-placed w o g w rows
+
+pub placed-from-leads : (w o : ℕ) (gs rows : List ℕ) → w * (o + length gs) ≤ length rows
+    → (i j : ℕ) → Leads (bits (placedFrom w o gs rows)) i j ↔ (Leads (bits rows) i j ⊎ SubtreePair w o gs i j)
+unfolding placedFrom
+placed-from-leads w o [] rows l i j = (inl, ⊎-elim (λ h. h) (λ h. absurd (omega (arith, h .given))))
+placed-from-leads w o (g ∷ gs) rows l i j =
+    let first = placed-leads w o g w rows (omega (arith, mul-suc w o, mul-le-mul-left w here)) i j in
+    let rest = placed-from-leads w (suc o) gs (placed w o g rows) (omega (arith, length-placed w o g w rows, ap (λ (n : ℕ). w * n) e)) i j in (
+      λ h.
+          ⊎-elim
+          (λ q.
+          ⊎-elim inl
+          (λ r. inr (record { k = 0; given = omega arith; pair = subst (λ (n : ℕ). Pair w n g i j) (sym (add-zero o)) r }))
+          (first .0 q))
+          (λ q. inr (record { k = suc (q .k); given = omega (arith, q .given); pair = subst (λ (n : ℕ). Pair w n (getD gs (q .k) 0) i j) (at (q .k)) (q .pair) }))
+          (rest .0 h),
+      ⊎-elim (λ h. rest .1 (inl (first .1 (inl h))))
+          (λ q. which (q .k) (q .given) (q .pair) (λ r. rest .1 (inl (first .1 (inr r)))) (λ r. rest .1 (inr r))),
+    )
+  where
+    here : suc o ≤ o + suc (length gs)
+    here = omega arith
+
+    e : suc o + length gs ≡ o + suc (length gs)
+    e = omega arith
+
+    at : (k : ℕ) → suc o + k ≡ o + suc k
+    at k = omega arith
+
+    which : (k : ℕ) → k < suc (length gs) → Pair w (o + k) (getD (g ∷ gs) k 0) i j → {T : Type 0} → (Pair w o g i j → T)
+        → (SubtreePair w (suc o) gs i j → T) → T
+    which zero h q one more = one (subst (λ (n : ℕ). Pair w n g i j) (add-zero o) q)
+    which (suc k) h q one more =
+        more (record { k = k; given = omega arith; pair = subst (λ (n : ℕ). Pair w n (getD gs k 0) i j) (sym (at k)) q })
+
+-- ---- the compound graph
+
+no-rows : (n i j : ℕ) → Leads (bits (replicate n 0)) i j → ⊥
+no-rows zero i j h = omega (arith, bit-zero j)
+no-rows (suc n) zero j h = omega (arith, bit-zero j)
+no-rows (suc n) (suc i) j h = no-rows n i j h
+
+module _ (w : ℕ) (edges : List Edge) (graphs : List ℕ) (within : EdgesWithin w (length graphs) edges) where
+  pub compound-leads : (i j : ℕ) → Leads (bits (compound w edges graphs)) i j ↔ CompoundEdge w edges graphs i j
+  unfolding compound
+  compound-leads i j =
+      let n = w * suc (length graphs) in
+      let bare : List ℕ = replicate n 0 in
+      let size : length bare ≡ n = length-replicate n 0 in
+      let e : w * (1 + length graphs) ≡ n = ap (λ (m : ℕ). w * m) (one-add (length graphs)) in
+      let owns = own-leads w edges bare (rw size (nodes-below w (length graphs) edges within)) i j in
+      let all = placed-from-leads w 1 graphs (own w edges bare) (omega (arith, length-own w edges bare)) i j in (
+        λ h. ⊎-elim (λ q. ⊎-elim (λ r. absurd (no-rows n i j r)) inl (owns .0 q)) inr (all .0 h),
+        ⊎-elim (λ q. all .1 (inl (owns .1 (inr q)))) (λ q. all .1 (inr q)),
+      )
+
+  compound-paths : (i j : ℕ) → Plus (Leads (bits (compound w edges graphs))) i j ↔ Plus (CompoundEdge w edges graphs) i j
+  compound-paths i j = (carried (λ x y. compound-leads x y .0), carried (λ x y. compound-leads x y .1))
+
+  -- its closure finds a circle exactly if it has one
+  pub compound-circle : (hasCircle (closure (compound w edges graphs)) ≡ true) ↔ Circle (CompoundEdge w edges graphs)
+  compound-circle =
+      let c = circle-path (compound w edges graphs) in (
+        λ h.
+            let p = c .0 h in
+            (p .0, compound-paths (p .0) (p .0) .0 (p .1)),
+        λ p. c .1 (p .0, compound-paths (p .0) (p .0) .1 (p .1)),
+      )
+
+  -- and its root's graph has the pair (a, b) exactly if a path leads from a to b
+  pub compound-root : (a b : ℕ) → a < w → b < w
+      → (bit (w * a + b) (rootGraph w (closure (compound w edges graphs))) ≡ 1) ↔ Plus (CompoundEdge w edges graphs) a b
+  compound-root a b la lb =
+      let r = root-path w (compound w edges graphs) a b la lb in
+      let p = compound-paths a b in
+      (λ h. p .0 (r .0 h), λ q. r .1 (p .1 q))
