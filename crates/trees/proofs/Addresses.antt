@@ -1,0 +1,64 @@
+-- An attribute of a node is an address with an attribute; the attribute graph is the edges of all productions, each at its own node.
+-- Assumes nothing.
+use mathlib.Core.List.{List, [], _∷_}
+use mathlib.Core.Logic.{_↔_}
+use mathlib.Core.Path.{_≡_, refl, ap, sym, subst₂}
+use Prim.Native.Nat.{ℕ, zero, suc}
+use Rattle.grammar.specs.Grammar.{Grammar}
+use Rattle.trees.specs.Tree.{Tree, node, Kids, nil, cons, Instance, here, under, Joined, TreeEdge, KidEdge}
+use Rattle.trees.specs.Address.{address, attribute, inside, Kid, first, later, Subtree, whole, down, AtNode}
+
+pub there-and-back : (x : Instance) → inside (address x) (here (attribute x)) ≡ x
+there-and-back (here a) = refl
+there-and-back (under i x) = ap (under i) (there-and-back x)
+
+pub address-inside : (d : List ℕ) (a : ℕ) → address (inside d (here a)) ≡ d
+address-inside [] a = refl
+address-inside (i ∷ d) a = ap (λ (e : List ℕ). i ∷ e) (address-inside d a)
+
+pub attribute-inside : (d : List ℕ) (a : ℕ) → attribute (inside d (here a)) ≡ a
+attribute-inside [] a = refl
+attribute-inside (i ∷ d) a = attribute-inside d a
+
+module _ (g : Grammar) where
+  kid-edge : {ks : Kids} {i : ℕ} {t : Tree} → Kid ks i t → (x y : Instance) → TreeEdge g t x y → KidEdge g ks i x y
+  kid-edge first x y e = e
+  kid-edge (later k) x y e = kid-edge k x y e
+
+  lower :
+      {p i : ℕ} {ks : Kids} {x y : Instance}
+      → ((t : Tree) × Kid ks i t × AtNode g t x y) → AtNode g (node p ks) (under i x) (under i y)
+  lower {i = i} (t, k, n) =
+      record {
+        d = i ∷ n .d;
+        p = n .p;
+        ks = n .ks;
+        u = n .u;
+        v = n .v;
+        stands = down k (n .stands);
+        edge = n .edge;
+        from = ap (under i) (n .from);
+        to = ap (under i) (n .to);
+      }
+
+  mutual
+    to-node : (t : Tree) (x y : Instance) → TreeEdge g t x y → AtNode g t x y
+    to-node (node p ks) x y (Joined.own o) =
+        record { d = []; p = p; ks = ks; u = x; v = y; stands = whole; edge = o; from = refl; to = refl }
+    to-node (node p ks) x y (Joined.kid {i = i} {x = u} {y = v} k) = lower (kid-node ks i u v k)
+
+    kid-node : (ks : Kids) (i : ℕ) (x y : Instance) → KidEdge g ks i x y → (t : Tree) × Kid ks i t × AtNode g t x y
+    kid-node nil i x y e = absurd e
+    kid-node (cons t ks) zero x y e = (t, first, to-node t x y e)
+    kid-node (cons t ks) (suc i) x y e = let r = kid-node ks i x y e in (r .0, later (r .1), r .2)
+
+  of-node : {t s : Tree} {d : List ℕ} → Subtree t d s → (u v : Instance) → TreeEdge g s u v → TreeEdge g t (inside d u) (inside d v)
+  of-node whole u v e = e
+  of-node (down {d = d} k s) u v e = Joined.kid (kid-edge k (inside d u) (inside d v) (of-node s u v e))
+
+  -- an edge of the tree is an edge of some node's production, at that node
+  pub each-at-its-node : (t : Tree) (x y : Instance) → TreeEdge g t x y ↔ AtNode g t x y
+  each-at-its-node t x y = (
+    to-node t x y,
+    λ n. subst₂ (TreeEdge g t) (sym (n .from)) (sym (n .to)) (of-node (n .stands) (n .u) (n .v) (Joined.own (n .edge))),
+  )

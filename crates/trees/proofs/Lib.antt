@@ -1,0 +1,14 @@
+pub mod Lists
+pub mod Paths
+pub mod Compose
+pub mod Addresses
+pub mod Values
+pub mod Exactly
+pub mod Runs
+pub mod Evaluators
+pub mod Graphs
+pub mod Shown
+pub mod Saturation
+pub mod Numbers
+pub mod Counting
+pub mod Samples

@@ -1,0 +1,230 @@
+-- Graphs as numbers: they are told apart by their pairs, and the compound graph has the same paths and circles over numbers.
+-- Assumes nothing.
+use mathlib.Core.List.{List, [], _∷_, List·Memᴰ}
+use mathlib.Core.Logic.{_⊎_, inl, inr, _↔_}
+use mathlib.Core.Path.{_≡_, refl, sym, _∙_, ap, ap₂, subst₂}
+use Prim.Native.Nat.{ℕ, zero, suc, _+_, _*_, _/_, _%_, _^_, _≤_, _<_}
+use native.Mathlib.Nat.{add-zero, pow-succ', div-one, div-div-eq-div-mul, div-lt-iff-lt-mul, mul-add-div, mul-add-mod-self-left, div-eq-of-lt, mod-eq-of-lt, mod-lt, div-add-mod, mul-le-mul-left}
+use native.Mathlib.Decide.{ℕ-discrete}
+use native.Mathlib.Omega.{arith}
+use lib.ListN.{length, getD}
+use Rattle.numbers.specs.Number.{bit}
+use Rattle.numbers.specs.Paths.{Plus, one, Circle}
+use Rattle.grammar.specs.declared.Symbol.{Symbol}
+use Rattle.grammar.specs.declared.Production.{Production}
+use Rattle.grammar.specs.declared.Node.{Node}
+use Rattle.grammar.specs.declared.Edge.{Edge}
+use Rattle.grammar.specs.Grammar.{Grammar, noSymbol, production, symbolAt}
+use Rattle.grammar.specs.Rules.{NodeThere}
+use Rattle.trees.specs.Tree.{Instance, here, under, at, Valid, AtMost}
+use Rattle.trees.specs.Address.{attribute}
+use Rattle.trees.specs.Compound.{Compound, IthHolds, OverGraphs, Makes, NumberHolds}
+use Rattle.trees.specs.Numbered.{Numbered}
+use Rattle.trees.proofs.Lists.{getD-each}
+use Rattle.trees.proofs.Paths.{first-edge, last-edge, image}
+
+-- ---- numbers below 2 to the power n with the same bits are equal
+
+bit-zero : (x : ℕ) → bit 0 x ≡ x % 2
+bit-zero x = rw (div-one x) refl
+
+bit-half : (k x : ℕ) → bit k (x / 2) ≡ bit (suc k) x
+bit-half k x = ap (λ (n : ℕ). n % 2) (div-div-eq-div-mul x 2 (2 ^ k) ∙ ap (λ (n : ℕ). x / n) (sym (pow-succ' 2 k)))
+
+half-below : (x n : ℕ) → x < 2 ^ suc n → x / 2 < 2 ^ n
+half-below x n h = let e = pow-succ' 2 n in omega (arith, h, e)
+
+same-bits : (n x y : ℕ) → x < 2 ^ n → y < 2 ^ n → ((k : ℕ) → k < n → bit k x ≡ bit k y) → x ≡ y
+same-bits zero x y hx hy f = omega arith
+same-bits (suc n) x y hx hy f =
+    let e = same-bits n (x / 2) (y / 2) (half-below x n hx) (half-below y n hy) halves in
+    let o : x % 2 ≡ y % 2 = sym (bit-zero x) ∙ f 0 (omega arith) ∙ bit-zero y in
+    omega (arith, e, o)
+  where
+    halves : (k : ℕ) → k < n → bit k (x / 2) ≡ bit k (y / 2)
+    halves k h = bit-half k x ∙ f (suc k) (omega arith) ∙ sym (bit-half k y)
+
+-- ---- graphs below 2 to the power w * w are told apart by their pairs
+
+bit-either : (k x : ℕ) → (bit k x ≡ 0) ⊎ (bit k x ≡ 1)
+bit-either k x = by (ℕ-discrete (bit k x) 0) (mod-lt (x / 2 ^ k) (omega arith))
+  where
+    by : Dec (bit k x ≡ 0) → bit k x < 2 → (bit k x ≡ 0) ⊎ (bit k x ≡ 1)
+    by (yes e) h = inl e
+    by (no n) h = inr (one-of (bit k x) h n)
+      where
+        one-of : (b : ℕ) → b < 2 → (¬ (b ≡ 0)) → b ≡ 1
+        one-of b h n = omega arith
+
+same-bit : (k x y : ℕ) → (bit k x ≡ 1 ↔ bit k y ≡ 1) → bit k x ≡ bit k y
+same-bit k x y h = by (bit-either k x) (bit-either k y)
+  where
+    by : (bit k x ≡ 0) ⊎ (bit k x ≡ 1) → (bit k y ≡ 0) ⊎ (bit k y ≡ 1) → bit k x ≡ bit k y
+    by (inl e) (inl f) = e ∙ sym f
+    by (inl e) (inr f) = h .1 f ∙ sym f
+    by (inr e) f = e ∙ sym (h .0 e)
+
+-- the number k of a pair is w * a + b for attributes a and b below w
+pair-of : (w k : ℕ) → k < w * w → (k / w < w) × (k % w < w) × (w * (k / w) + k % w ≡ k)
+pair-of zero k h = absurd (omega arith)
+pair-of (suc w) k h =
+    (div-lt-iff-lt-mul {k = suc w} (omega arith) .1 h, mod-lt k (omega arith), div-add-mod k (suc w))
+
+pub told-apart :
+    (w x y : ℕ) → x < 2 ^ (w * w) → y < 2 ^ (w * w) → ((a b : ℕ) → NumberHolds w x a b ↔ NumberHolds w y a b) → x ≡ y
+told-apart w x y hx hy f = same-bits (w * w) x y hx hy (λ k h. by k (pair-of w k h))
+  where
+    by : (k : ℕ) → (k / w < w) × (k % w < w) × (w * (k / w) + k % w ≡ k) → bit k x ≡ bit k y
+    by k (ha, hb, e) =
+        same-bit k x y (
+          λ q. rw e at (f (k / w) (k % w) .0 (record { from = ha; to = hb; worth = rw e q }) .worth),
+          λ q. rw e at (f (k / w) (k % w) .1 (record { from = ha; to = hb; worth = rw e q }) .worth),
+        )
+
+-- ---- the numbers of nodes
+
+abbrev number : ℕ → Instance → ℕ
+number w (here a) = a
+number w (under i x) = w * suc i + number w x
+
+abbrev place : ℕ → ℕ → Instance
+place w n = at (n / w) (n % w)
+
+number-at : (w o a : ℕ) → number w (at o a) ≡ w * o + a
+number-at w zero a = omega arith
+number-at w (suc i) a = refl
+
+place-at : (w o a : ℕ) → a < w → place w (w * o + a) ≡ at o a
+place-at w o a h =
+    let pos : 0 < w = omega arith in
+    let d : (w * o + a) / w ≡ o = mul-add-div pos o a ∙ ap (λ (n : ℕ). o + n) (div-eq-of-lt h) ∙ add-zero o in
+    ap₂ at d (mul-add-mod-self-left w o a ∙ mod-eq-of-lt h)
+
+-- the number of a node of a production with n right symbols
+pub number-below : (w n o a : ℕ) → o ≤ n → a < w → w * o + a < w * suc n
+number-below w n o a h l = let m : w * o ≤ w * n = mul-le-mul-left w h in omega (arith, m)
+
+attribute-at : (o a : ℕ) → attribute (at o a) ≡ a
+attribute-at zero a = refl
+attribute-at (suc i) a = refl
+
+-- ---- the k-th graph
+
+ith-number :
+    (w : ℕ) (graphs : List ℕ) (k a b : ℕ)
+    → k < length graphs → NumberHolds w (getD graphs k 0) a b → IthHolds (NumberHolds w) graphs k a b
+ith-number w [] k a b l h = absurd (omega arith)
+ith-number w (graph ∷ graphs) zero a b l h = h
+ith-number w (graph ∷ graphs) (suc k) a b l h = ith-number w graphs k a b (omega arith) h
+
+number-ith :
+    (w : ℕ) (graphs : List ℕ) (k a b : ℕ)
+    → IthHolds (NumberHolds w) graphs k a b → (k < length graphs) × NumberHolds w (getD graphs k 0) a b
+number-ith w [] k a b h = absurd h
+number-ith w (graph ∷ graphs) zero a b h = (omega arith, h)
+number-ith w (graph ∷ graphs) (suc k) a b h = let r = number-ith w graphs k a b h in (omega (arith, r .0), r .1)
+
+-- ---- the compound graph, of a grammar whose edges are good and whose symbols have at most w attributes
+module _ (w : ℕ) (g : Grammar) (valid : Valid g) (few : AtMost w g) (p : ℕ) (graphs : List ℕ) where
+  abbrev C : Instance → Instance → Type 0
+  C = OverGraphs g (NumberHolds w) p graphs
+
+  abbrev N : ℕ → ℕ → Type 0
+  N = Numbered w g p graphs
+
+  there-below : (q : Production) (x : Node) → NodeThere g q x → x .attribute < w
+  there-below q x h =
+      omega (
+        arith,
+        h .attribute,
+        getD-each (λ (s : Symbol). s .count ≤ w) (g .symbols) noSymbol (omega arith) few (symbolAt q (x .occurrence)),
+      )
+
+  source-below : (e : Edge) → List·Memᴰ e (g .edges) → e .source .attribute < w
+  source-below e m = there-below (production g (e .production)) (e .source) (valid .edges e m .source)
+
+  target-below : (e : Edge) → List·Memᴰ e (g .edges) → e .target .attribute < w
+  target-below e m = there-below (production g (e .production)) (e .target) (valid .edges e m .target)
+
+  to-number : (x y : Instance) → C x y → N (number w x) (number w y)
+  to-number x y (Compound.own h) =
+      Numbered.own (h .edge) (h .among) (h .which)
+      (ap (number w) (h .from) ∙ number-at w (h .edge .source .occurrence) (h .edge .source .attribute))
+      (ap (number w) (h .to) ∙ number-at w (h .edge .target .occurrence) (h .edge .target .attribute))
+  to-number x y (Compound.pair {i = k} {a = a} {b = b} r) =
+      let h = number-ith w graphs k a b r in
+      Numbered.pair k a b (h .0) (h .1 .from) (h .1 .to) (h .1 .worth) refl refl
+
+  of-number : (n m : ℕ) → N n m → C (place w n) (place w m)
+  of-number n m (Numbered.own e i h u v) =
+      Compound.own
+      (record {
+        edge = e;
+        among = i;
+        which = h;
+        from = ap (place w) u ∙ place-at w (e .source .occurrence) (e .source .attribute) (source-below e i);
+        to = ap (place w) v ∙ place-at w (e .target .occurrence) (e .target .attribute) (target-below e i);
+      })
+  of-number n m (Numbered.pair k a b l ha hb q u v) =
+      subst₂ C (sym (ap (place w) u ∙ place-at w (suc k) a ha)) (sym (ap (place w) v ∙ place-at w (suc k) b hb))
+      (Compound.pair (ith-number w graphs k a b l (record { from = ha; to = hb; worth = q })))
+
+  -- the compound graph has the same paths over the numbers of its nodes
+  pub numbered-paths :
+      (o a q b : ℕ) → a < w → b < w
+      → Plus (OverGraphs g (NumberHolds w) p graphs) (at o a) (at q b) ↔ Plus (Numbered w g p graphs) (w * o + a) (w * q + b)
+  numbered-paths o a q b ha hb = (
+    λ r. subst₂ (Plus N) (number-at w o a) (number-at w q b) (image (number w) (λ x y e. one (to-number x y e)) r),
+    λ r. subst₂ (Plus C) (place-at w o a ha) (place-at w q b hb) (image (place w) (λ n m e. one (of-number n m e)) r),
+  )
+
+  -- and a circle exactly if it has one over them
+  pub numbered-circles : Circle (OverGraphs g (NumberHolds w) p graphs) ↔ Circle (Numbered w g p graphs)
+  numbered-circles = (
+    λ c. (number w (c .0), image (number w) (λ x y e. one (to-number x y e)) (c .1)),
+    λ c. (place w (c .0), image (place w) (λ n m e. one (of-number n m e)) (c .1)),
+  )
+
+  -- all attributes on its edges are below w
+  edge-below : (x y : Instance) → C x y → (attribute x < w) × (attribute y < w)
+  edge-below x y (Compound.own h) =
+      let s = source-below (h .edge) (h .among) in
+      let t = target-below (h .edge) (h .among) in
+      let u = ap attribute (h .from) ∙ attribute-at (h .edge .source .occurrence) (h .edge .source .attribute) in
+      let v = ap attribute (h .to) ∙ attribute-at (h .edge .target .occurrence) (h .edge .target .attribute) in
+      (rw u s, rw v t)
+  edge-below x y (Compound.pair {i = k} {a = a} {b = b} r) = let h = number-ith w graphs k a b r .1 in (h .from, h .to)
+
+  -- a number is what the production makes of the graphs, if its bits are the paths between the numbers below w
+  pub numbered-makes :
+      (graph : ℕ)
+      → ((a b : ℕ) → a < w → b < w → (bit (w * a + b) graph ≡ 1) ↔ Plus (Numbered w g p graphs) a b)
+      → Makes g (NumberHolds w) p graphs graph
+  numbered-makes graph f a b = (there, back)
+    where
+      z : (c : ℕ) → w * 0 + c ≡ c
+      z c = omega arith
+
+      there : NumberHolds w graph a b → Plus C (here a) (here b)
+      there h = numbered-paths 0 a 0 b (h .from) (h .to) .1 (rw (z a, z b) (f a b (h .from) (h .to) .0 (h .worth)))
+
+      back : Plus C (here a) (here b) → NumberHolds w graph a b
+      back r =
+          let s = first-edge r in
+          let e = last-edge r in
+          let ha = edge-below (here a) (s .0) (s .1) .0 in
+          let hb = edge-below (e .0) (here b) (e .1) .1 in
+          record { from = ha; to = hb; worth = f a b ha hb .1 (rw (z a, z b) at (numbered-paths 0 a 0 b ha hb .0 r)) }
+
+  -- its nodes, where there is a graph for each right symbol
+  pub numbered-below :
+      length graphs ≡ production g p .n
+      → (n m : ℕ) → Numbered w g p graphs n m → (n < w * suc (length graphs)) × (m < w * suc (length graphs))
+  numbered-below c n m (Numbered.own e i h u v) =
+      let s = rw h at (valid .edges e i .source .occurrence) in
+      let t = rw h at (valid .edges e i .target .occurrence) in (
+        rw (u, c) (number-below w (production g p .n) (e .source .occurrence) (e .source .attribute) s (source-below e i)),
+        rw (v, c) (number-below w (production g p .n) (e .target .occurrence) (e .target .attribute) t (target-below e i)),
+      )
+  numbered-below c n m (Numbered.pair k a b l ha hb q u v) =
+      (rw u (number-below w (length graphs) (suc k) a l ha), rw v (number-below w (length graphs) (suc k) b l hb))

@@ -1,0 +1,9 @@
+-- Finite complete trees, their attribute graphs and circles; evaluators; the trees that a derivation record shows.
+pub mod Lists
+pub mod Tree
+pub mod Address
+pub mod Compound
+pub mod Numbered
+pub mod Evaluator
+pub mod Record
+pub mod Small

@@ -1,0 +1,1 @@
+// No code: trees, circles and evaluators stand in specs/ and proofs/.
