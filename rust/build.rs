@@ -1,0 +1,11 @@
+//! Links the archive that `rt staticlib foreign` writes.
+
+use std::path::PathBuf;
+
+fn main() {
+    let here = PathBuf::from(std::env::var("CARGO_MANIFEST_DIR").expect("cargo sets it"));
+    let archive = here.join("../target/staticlib");
+    println!("cargo:rustc-link-search=native={}", archive.display());
+    println!("cargo:rustc-link-lib=static=foreign");
+    println!("cargo:rerun-if-changed={}", archive.join("libforeign.a").display());
+}
