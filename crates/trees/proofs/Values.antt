@@ -61,7 +61,7 @@ module _ (g : Grammar) where
     value-kid nil [] i a w h l = absurd (omega arith)
     value-kid nil (s ∷ ss) i a w h l = absurd w
     value-kid (cons t ks) [] i a w h l = absurd w
-    value-kid (cons t ks) (s ∷ ss) zero a w h l = value-root t a (rw (w .0) l)
+    value-kid (cons t ks) (s ∷ ss) zero a w h l = value-root t a (subst (λ (r : ℕ). a < symbol g r .count) (sym (w .0)) l)
     value-kid (cons t ks) (s ∷ ss) (suc i) a w h l = value-kid ks ss i a (w .2) (omega arith) l
 
     -- the attributes of the root's occurrences are values
