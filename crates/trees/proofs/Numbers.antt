@@ -140,10 +140,10 @@ module _ (w : ℕ) (g : Grammar) (valid : Valid g) (few : AtMost w g) (p : ℕ) 
         getD-each (λ (s : Symbol). s .count ≤ w) (g .symbols) noSymbol (omega arith) few (symbolAt q (x .occurrence)),
       )
 
-  source-below : (e : Edge) → List·Memᴰ e (g .edges) → e .source .attribute < w
+  pub source-below : (e : Edge) → List·Memᴰ e (g .edges) → e .source .attribute < w
   source-below e m = there-below (production g (e .production)) (e .source) (valid .edges e m .source)
 
-  target-below : (e : Edge) → List·Memᴰ e (g .edges) → e .target .attribute < w
+  pub target-below : (e : Edge) → List·Memᴰ e (g .edges) → e .target .attribute < w
   target-below e m = there-below (production g (e .production)) (e .target) (valid .edges e m .target)
 
   to-number : (x y : Instance) → C x y → N (number w x) (number w y)

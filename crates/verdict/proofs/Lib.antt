@@ -3,3 +3,4 @@ pub use Rattle.passes.proofs.Cases.{K, entries-A, whole-B, waits, fastest}
 pub use Rattle.passes.proofs.Borders.{borders}
 pub use Rattle.passes.proofs.Growth.{fuel-suffices, grown-pass}
 pub use Rattle.passes.proofs.Nested.{tries-nested}
+pub mod Bridge
