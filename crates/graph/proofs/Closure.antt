@@ -87,7 +87,10 @@ circle-there (suc n) rows h = go (bits rows n n) refl (λ t. circle-there n rows
 
 -- some node has an edge to itself
 pub circle-self : (rows : List ℕ) → (hasCircle rows ≡ true) ↔ ((i : ℕ) × Leads (bits rows) i i)
-circle-self rows = (circle-there (length rows) rows, λ p. circle-found (length rows) rows (p .0) (leads-lt rows (p .0) (p .0) (p .1)) (p .1))
+circle-self rows = (
+  circle-there (length rows) rows,
+  λ p. circle-found (length rows) rows (p .0) (leads-lt rows (p .0) (p .0) (p .1)) (p .1),
+)
 
 -- of the closed rows: some node has a path to itself
 pub circle-path : (rows : List ℕ) → (hasCircle (closure rows) ≡ true) ↔ Circle (Leads (bits rows))

@@ -1,6 +1,6 @@
 -- Which edges a compound graph has: the edges given, and the pairs of each subtree's graph at its occurrence. Over the number w of attributes.
 -- Assumes nothing.
-use mathlib.Core.Path.{_≡_, refl, sym, ap, _∙_, subst}
+use mathlib.Core.Path.{_≡_, refl, sym, ap, _∙_}
 use mathlib.Core.Bool.{true}
 use mathlib.Core.List.{List, [], _∷_, List·Memᴰ, List·Memᴰ·head, List·Memᴰ·tail, List·Memᴰ·cases-cons, List·Memᴰ·not-nil}
 use mathlib.Core.Logic.{_⊎_, inl, inr, ⊎-elim, _↔_}
@@ -26,23 +26,22 @@ use Rattle.graph.proofs.Root.{root-path}
 
 -- ---- x joined into row p
 
-module _ (p x : ℕ) (rows : List ℕ) (l : p < length rows) (i j : ℕ) where
-  abbrev Joined : Type 0
-  Joined = Leads (bits rows) i j ⊎ ((i ≡ p) × (bit j x ≡ 1))
-
-  pub join-leads : Leads (bits (joinAt p x rows)) i j ↔ Joined
-  join-leads = go (ℕ-discrete i p)
-    where
-      go : Dec (i ≡ p) → Leads (bits (joinAt p x rows)) i j ↔ Joined
-      go (yes e) =
-          let b = bit-or j (getD rows i 0) x in
-          let s : bits (joinAt p x rows) i j ≡ bit j (bitOr (getD rows i 0) x) = rw (e, getD-set-same rows p (bitOr (getD rows p 0) x) 0 l) in (
-            λ h. ⊎-elim inl (λ q. inr (e, q)) (one-of (bits rows i j) (bit j x) (sym b ∙ sym s ∙ h)),
-            ⊎-elim (λ h. omega (arith, s, b, bit-lt j x)) (λ h. omega (arith, s, b, bit-lt j (getD rows i 0), h .1)),
-          )
-      go (no f) =
-          let s : bits (joinAt p x rows) i j ≡ bits rows i j = ap (bit j) (getD-set-other rows p i (bitOr (getD rows p 0) x) 0 f) in
-          (λ h. inl (sym s ∙ h), ⊎-elim (λ h. s ∙ h) (λ h. absurd (f (h .0))))
+join-leads : (p x : ℕ) (rows : List ℕ) → p < length rows
+    → (i j : ℕ) → Leads (bits (joinAt p x rows)) i j ↔ (Leads (bits rows) i j ⊎ ((i ≡ p) × (bit j x ≡ 1)))
+join-leads p x rows l i j = go (ℕ-discrete i p)
+  where
+    go : Dec (i ≡ p) → Leads (bits (joinAt p x rows)) i j ↔ (Leads (bits rows) i j ⊎ ((i ≡ p) × (bit j x ≡ 1)))
+    go (yes e) =
+        let new = bitOr (getD rows p 0) x in
+        let b = bit-or j (getD rows i 0) x in
+        let s : bits (joinAt p x rows) i j ≡ bit j (bitOr (getD rows i 0) x) = rw (e, getD-set-same rows p new 0 l) in (
+          λ h. ⊎-elim inl (λ q. inr (e, q)) (one-of (bits rows i j) (bit j x) (sym b ∙ sym s ∙ h)),
+          ⊎-elim (λ h. omega (arith, s, b, bit-lt j x)) (λ h. omega (arith, s, b, bit-lt j (getD rows i 0), h .1)),
+        )
+    go (no f) =
+        let new = bitOr (getD rows p 0) x in
+        let s : bits (joinAt p x rows) i j ≡ bits rows i j = ap (bit j) (getD-set-other rows p i new 0 f) in
+        (λ h. inl (sym s ∙ h), ⊎-elim (λ h. s ∙ h) (λ h. absurd (f (h .0))))
 
 -- ---- the edges given
 
@@ -69,8 +68,7 @@ nodes-below w n es h e m = (node-lt w n (e .source) (h e m .0), node-lt w n (e .
 pub length-own : (w : ℕ) (es : List Edge) (rows : List ℕ) → length (own w es rows) ≡ length rows
 unfolding own
 length-own w [] rows = refl
-length-own w (e ∷ es) rows =
-    length-own w es (link (node w (e .source)) (node w (e .target)) rows) ∙ length-link (node w (e .source)) (node w (e .target)) rows
+length-own w (e ∷ es) rows = length-own w es (link (node w (e .source)) (node w (e .target)) rows) ∙ simp length-link
 
 pub own-leads : (w : ℕ) (es : List Edge) (rows : List ℕ) → NodesBelow w (length rows) es
     → (i j : ℕ) → Leads (bits (own w es rows)) i j ↔ (Leads (bits rows) i j ⊎ OwnEdge w es i j)
@@ -81,10 +79,7 @@ own-leads w (e ∷ es) rows below i j =
     let t = node w (e .target) in
     let here = below e (List·Memᴰ·head refl) in
     let first = link-leads s t rows (here .0) (here .1) i j in
-    let rest =
-    own-leads w es (link s t rows)
-    (λ f m. subst (λ (n : ℕ). (node w (f .source) < n) × (node w (f .target) < n)) (sym (length-link s t rows)) (below f (List·Memᴰ·tail m)))
-    i j in (
+    let rest = own-leads w es (link s t rows) (λ f m. rw (length-link s t rows) (below f (List·Memᴰ·tail m))) i j in (
       λ h.
           ⊎-elim
           (λ q. ⊎-elim inl (λ r. inr (record { edge = e; given = List·Memᴰ·head refl; from = r .0; to = r .1 })) (first .0 q))
@@ -93,7 +88,11 @@ own-leads w (e ∷ es) rows below i j =
       ⊎-elim (λ h. rest .1 (inl (first .1 (inl h))))
           (λ q.
           ⊎-elim
-          (λ r. rest .1 (inl (first .1 (inr (q .from ∙ ap (λ (f : Edge). node w (f .source)) r, q .to ∙ ap (λ (f : Edge). node w (f .target)) r)))))
+          (λ r.
+          rest .1
+          (inl
+          (first .1
+          (inr (q .from ∙ ap (λ (f : Edge). node w (f .source)) r, q .to ∙ ap (λ (f : Edge). node w (f .target)) r)))))
           (λ m. rest .1 (inr (record { edge = q .edge; given = m; from = q .from; to = q .to })))
           (List·Memᴰ·cases-cons (q .given))),
     )
@@ -105,36 +104,50 @@ unfolding placedTo
 length-placed w o g zero rows = refl
 length-placed w o g (suc c) rows = length-set (placedTo w o g c rows) (w * o + c) _ ∙ length-placed w o g c rows
 
+-- a pair under another bound
+bounded : {w c o g i j : ℕ} (p : PairTo w c o g i j) (d : ℕ) → p .a < d → PairTo w d o g i j
+bounded p d l = record { a = p .a; b = p .b; a-lt = l; b-lt = p .b-lt; from = p .from; to = p .to; there = p .there }
+
+-- the pairs that begin in attribute c, as the bits of a row
+module _ (w c o g i j : ℕ) where
+  abbrev Row : Type 0
+  Row = (i ≡ w * o + c) × (bit j (pairsFrom w c g * 2 ^ (w * o)) ≡ 1)
+
+  pair-of-row : Row → PairTo w (suc c) o g i j
+  pair-of-row q =
+      let r = block-bit w (w * o) (g / 2 ^ (w * c)) j (q .1) in
+      record { a = c; b = r .0; a-lt = omega arith; b-lt = r .1; from = q .0; to = r .2; there = sym (bit-down (w * c) (r .0) g) ∙ r .3 }
+
+  row-of-pair : (q : PairTo w (suc c) o g i j) → q .a ≡ c → Row
+  row-of-pair q e =
+      let there : bit (q .b) (g / 2 ^ (w * c)) ≡ 1 = bit-down (w * c) (q .b) g ∙ ap (λ (a : ℕ). bit (w * a + q .b) g) (sym e) ∙ q .there in (
+        q .from ∙ ap (λ (a : ℕ). w * o + a) e,
+        rw (q .to) (block-made w (w * o) (g / 2 ^ (w * c)) (q .b) (q .b-lt) there),
+      )
+
+  -- a pair begins in attribute c, or before
+  last-or-before : PairTo w (suc c) o g i j → PairTo w c o g i j ⊎ Row
+  last-or-before q = go (ℕ-discrete (q .a) c)
+    where
+      go : Dec (q .a ≡ c) → PairTo w c o g i j ⊎ Row
+      go (yes e) = inr (row-of-pair q e)
+      go (no f) = inl (bounded q c (omega (arith, q .a-lt)))
+
 pub placed-leads : (w o g c : ℕ) (rows : List ℕ) → w * o + c ≤ length rows
     → (i j : ℕ) → Leads (bits (placedTo w o g c rows)) i j ↔ (Leads (bits rows) i j ⊎ PairTo w c o g i j)
 unfolding placedTo
 placed-leads w o g zero rows l i j = (inl, ⊎-elim (λ h. h) (λ h. absurd (omega (arith, h .a-lt))))
 placed-leads w o g (suc c) rows l i j =
-    let k =
-    join-leads (w * o + c) (pairsFrom w c g * 2 ^ (w * o)) (placedTo w o g c rows) (omega (arith, length-placed w o g c rows)) i j in
+    let before = placedTo w o g c rows in
+    let last = join-leads (w * o + c) (pairsFrom w c g * 2 ^ (w * o)) before (omega (arith, length-placed w o g c rows)) i j in
     let rest = placed-leads w o g c rows (omega arith) i j in (
       λ h.
-          ⊎-elim
-          (λ q. ⊎-elim inl (λ r. inr (wider r)) (rest .0 q))
-          (λ q.
-          let r = block-bit w (w * o) (g / 2 ^ (w * c)) j (q .1) in
-          inr (record { a = c; b = r .0; a-lt = omega arith; b-lt = r .1; from = q .0; to = r .2; there = sym (bit-down (w * c) (r .0) g) ∙ r .3 }))
-          (k .0 h),
-      ⊎-elim (λ h. k .1 (inl (rest .1 (inl h)))) (λ q. last q (ℕ-discrete (q .a) c) (λ r. k .1 (inl (rest .1 (inr r)))) (λ r. k .1 (inr r))),
+          ⊎-elim (λ q. ⊎-elim inl (λ r. inr (bounded r (suc c) (omega (arith, r .a-lt)))) (rest .0 q))
+          (λ q. inr (pair-of-row w c o g i j q))
+          (last .0 h),
+      ⊎-elim (λ h. last .1 (inl (rest .1 (inl h))))
+          (λ q. last .1 (⊎-elim (λ r. inl (rest .1 (inr r))) inr (last-or-before w c o g i j q))),
     )
-  where
-    wider : PairTo w c o g i j → PairTo w (suc c) o g i j
-    wider r = record { a = r .a; b = r .b; a-lt = omega (arith, r .a-lt); b-lt = r .b-lt; from = r .from; to = r .to; there = r .there }
-
-    last : (q : PairTo w (suc c) o g i j) → Dec (q .a ≡ c) → {T : Type 0} → (PairTo w c o g i j → T)
-        → ((i ≡ w * o + c) × (bit j (pairsFrom w c g * 2 ^ (w * o)) ≡ 1) → T) → T
-    last q (yes e) one more =
-        more (
-          q .from ∙ ap (λ (a : ℕ). w * o + a) e,
-          rw (q .to) (block-made w (w * o) (g / 2 ^ (w * c)) (q .b) (q .b-lt) (bit-down (w * c) (q .b) g ∙ ap (λ (a : ℕ). bit (w * a + q .b) g) (sym e) ∙ q .there)),
-        )
-    last q (no f) one more =
-        one (record { a = q .a; b = q .b; a-lt = omega (arith, q .a-lt); b-lt = q .b-lt; from = q .from; to = q .to; there = q .there })
 
 -- ---- all subtrees' pairs
 
@@ -143,39 +156,39 @@ unfolding placedFrom
 length-placed-from w o [] rows = refl
 length-placed-from w o (g ∷ gs) rows = length-placed-from w (suc o) gs (placed w o g rows) ∙ length-placed w o g w rows
 
+-- the subtrees are the first, and those after it from the next occurrence on
+next : (o k : ℕ) → suc o + k ≡ o + suc k
+next o k = omega arith
+
+module _ (w o g : ℕ) (gs : List ℕ) (i j : ℕ) where
+  of-first : Pair w o g i j → SubtreePair w o (g ∷ gs) i j
+  of-first p = record { k = 0; given = omega arith; pair = rw (add-zero o) p }
+
+  of-rest : SubtreePair w (suc o) gs i j → SubtreePair w o (g ∷ gs) i j
+  of-rest q = record { k = suc (q .k); given = omega (arith, q .given); pair = rw (next o (q .k)) at (q .pair) }
+
+  first-or-rest : SubtreePair w o (g ∷ gs) i j → Pair w o g i j ⊎ SubtreePair w (suc o) gs i j
+  first-or-rest q = go (q .k) (q .given) (q .pair)
+    where
+      go : (k : ℕ) → k < suc (length gs) → Pair w (o + k) (getD (g ∷ gs) k 0) i j → Pair w o g i j ⊎ SubtreePair w (suc o) gs i j
+      go zero h p = inl (rw (add-zero o) at p)
+      go (suc k) h p = inr (record { k = k; given = omega arith; pair = rw (next o k) p })
+
 pub placed-from-leads : (w o : ℕ) (gs rows : List ℕ) → w * (o + length gs) ≤ length rows
     → (i j : ℕ) → Leads (bits (placedFrom w o gs rows)) i j ↔ (Leads (bits rows) i j ⊎ SubtreePair w o gs i j)
 unfolding placedFrom
 placed-from-leads w o [] rows l i j = (inl, ⊎-elim (λ h. h) (λ h. absurd (omega (arith, h .given))))
 placed-from-leads w o (g ∷ gs) rows l i j =
+    let here : suc o ≤ o + suc (length gs) = omega arith in
+    let e = ap (λ (n : ℕ). w * n) (next o (length gs)) in
     let first = placed-leads w o g w rows (omega (arith, mul-suc w o, mul-le-mul-left w here)) i j in
-    let rest = placed-from-leads w (suc o) gs (placed w o g rows) (omega (arith, length-placed w o g w rows, ap (λ (n : ℕ). w * n) e)) i j in (
+    let rest = placed-from-leads w (suc o) gs (placed w o g rows) (omega (arith, length-placed w o g w rows, e)) i j in (
       λ h.
-          ⊎-elim
-          (λ q.
-          ⊎-elim inl
-          (λ r. inr (record { k = 0; given = omega arith; pair = subst (λ (n : ℕ). Pair w n g i j) (sym (add-zero o)) r }))
-          (first .0 q))
-          (λ q. inr (record { k = suc (q .k); given = omega (arith, q .given); pair = subst (λ (n : ℕ). Pair w n (getD gs (q .k) 0) i j) (at (q .k)) (q .pair) }))
+          ⊎-elim (λ q. ⊎-elim inl (λ r. inr (of-first w o g gs i j r)) (first .0 q)) (λ q. inr (of-rest w o g gs i j q))
           (rest .0 h),
       ⊎-elim (λ h. rest .1 (inl (first .1 (inl h))))
-          (λ q. which (q .k) (q .given) (q .pair) (λ r. rest .1 (inl (first .1 (inr r)))) (λ r. rest .1 (inr r))),
+          (λ q. rest .1 (⊎-elim (λ r. inl (first .1 (inr r))) inr (first-or-rest w o g gs i j q))),
     )
-  where
-    here : suc o ≤ o + suc (length gs)
-    here = omega arith
-
-    e : suc o + length gs ≡ o + suc (length gs)
-    e = omega arith
-
-    at : (k : ℕ) → suc o + k ≡ o + suc k
-    at k = omega arith
-
-    which : (k : ℕ) → k < suc (length gs) → Pair w (o + k) (getD (g ∷ gs) k 0) i j → {T : Type 0} → (Pair w o g i j → T)
-        → (SubtreePair w (suc o) gs i j → T) → T
-    which zero h q one more = one (subst (λ (n : ℕ). Pair w n g i j) (add-zero o) q)
-    which (suc k) h q one more =
-        more (record { k = k; given = omega arith; pair = subst (λ (n : ℕ). Pair w n (getD gs k 0) i j) (sym (at k)) q })
 
 -- ---- the compound graph
 

@@ -3,7 +3,7 @@
 use mathlib.Core.Path.{_≡_, sym, ap, _∙_, subst₂}
 use mathlib.Core.List.{List}
 use mathlib.Core.Logic.{⊎-elim, _↔_}
-use Prim.Native.Nat.{ℕ, zero, suc, _+_, _*_, _/_, _%_, _^_, _<_}
+use Prim.Native.Nat.{ℕ, zero, suc, _+_, _*_, _/_, _%_, _^_, _<_, max}
 use native.Mathlib.Nat.{add-comm, mul-comm, mul-suc, mod-lt, lt-of-lt-of-le, div-add-mod, div-lt-iff-lt-mul}
 use native.Mathlib.Decide.{ℕ-discrete}
 use native.Mathlib.Omega.{arith}
@@ -13,7 +13,7 @@ use lib.ListN.{getD}
 use lib.Pow.{pow-mono, pow-pos, shl-lt}
 use Rattle.numbers.specs.Number.{bit}
 use Rattle.numbers.specs.Paths.{Plus, Leads}
-use Rattle.numbers.proofs.Bits.{bit-lt, bit-zero, bit-or, one-of, block-bit, block-made, same-bits}
+use Rattle.numbers.proofs.Bits.{bit-lt, bit-zero, bit-or, one-of, same-bit, block-bit, block-made, same-bits}
 use Rattle.graph.specs.Rows.{bits, closure, rootTo, rootGraph}
 use Rattle.graph.proofs.Closure.{closure-path}
 
@@ -38,19 +38,10 @@ pub same-pairs : (w g h : ℕ) → g < 2 ^ (w * w) → h < 2 ^ (w * w)
     → ((a b : ℕ) → a < w → b < w → (bit (w * a + b) g ≡ 1) ↔ (bit (w * a + b) h ≡ 1)) → g ≡ h
 same-pairs w g h lg lh f = same-bits (w * w) g h lg lh at
   where
-    same : (x y : ℕ) → x < 2 → y < 2 → (x ≡ 1) ↔ (y ≡ 1) → Dec (x ≡ 1) → Dec (y ≡ 1) → x ≡ y
-    same x y lx ly i (yes e) d = e ∙ sym (i .0 e)
-    same x y lx ly i (no f) (yes e) = absurd (f (i .1 e))
-    same x y lx ly i (no f) (no g) = omega arith
-
     at : (j : ℕ) → j < w * w → bit j g ≡ bit j h
     at j l =
         let p = pair-of w j l in
-        let x = bit (w * p .0 + p .1) g in
-        let y = bit (w * p .0 + p .1) h in
-        rw (p .4)
-        (same x y (bit-lt (w * p .0 + p .1) g) (bit-lt (w * p .0 + p .1) h) (f (p .0) (p .1) (p .2) (p .3)) (ℕ-discrete x 1)
-        (ℕ-discrete y 1))
+        same-bit (bit j g) (bit j h) (bit-lt j g) (bit-lt j h) (rw (p .4) (f (p .0) (p .1) (p .2) (p .3)))
 
 -- ---- the pairs of the root's graph
 
@@ -75,7 +66,7 @@ module _ (w : ℕ) (rows : List ℕ) where
   root-made (suc n) a b la lb h = bit-or (w * a + b) (rootTo w n rows) (last n) ∙ go (ℕ-discrete a n) (λ l. root-made n a b l lb h)
     where
       go : Dec (a ≡ n) → (a < n → bit (w * a + b) (rootTo w n rows) ≡ 1)
-          → Prim.Native.Nat.max (bit (w * a + b) (rootTo w n rows)) (bit (w * a + b) (last n)) ≡ 1
+          → max (bit (w * a + b) (rootTo w n rows)) (bit (w * a + b) (last n)) ≡ 1
       go (yes e) r =
           let q : bit (w * a + b) (last n) ≡ 1 = rw e (block-made w (w * n) (getD rows n 0) b lb (rw e at h)) in
           omega (arith, bit-lt (w * a + b) (rootTo w n rows))

@@ -106,19 +106,20 @@ root-more w a rows p q = rw add-one (ap₂ bitOr p q)
 
 -- ---- a table that is filled from the front with f of another one's rows
 
-abbrev pub filled : (ℕ → ℕ) → List ℕ → List ℕ → ℕ → List ℕ
-filled f xs d i = map f (take i xs) ++ drop i d
+module _ {A B : Type 0} (f : A → B) where
+  abbrev pub filled : List A → List B → ℕ → List B
+  filled xs d i = map f (take i xs) ++ drop i d
 
-fill : (f : ℕ → ℕ) (xs d : List ℕ) (i : ℕ) → i < length xs → i < length d
-    → set (filled f xs d i) i (f (getD xs i 0)) ≡ filled f xs d (suc i)
-fill f [] d i l m = absurd (omega arith)
-fill f (x ∷ xs) [] i l m = absurd (omega arith)
-fill f (x ∷ xs) (y ∷ d) zero l m = refl
-fill f (x ∷ xs) (y ∷ d) (suc i) l m = ap (λ (r : List ℕ). f x ∷ r) (fill f xs d i (omega arith) (omega arith))
+  fill : (z : A) (xs : List A) (d : List B) (i : ℕ) → i < length xs → i < length d
+      → set (filled xs d i) i (f (getD xs i z)) ≡ filled xs d (suc i)
+  fill z [] d i l m = absurd (omega arith)
+  fill z (x ∷ xs) [] i l m = absurd (omega arith)
+  fill z (x ∷ xs) (y ∷ d) zero l m = refl
+  fill z (x ∷ xs) (y ∷ d) (suc i) l m = ap (λ (r : List B). f x ∷ r) (fill z xs d i (omega arith) (omega arith))
 
-pub filled-more : (f : ℕ → ℕ) (xs d : List ℕ) (i : ℕ) {t : List ℕ} {v : ℕ}
-    → t ≡ filled f xs d i → v ≡ f (getD xs i 0) → i < length xs → i < length d → set t i v ≡ filled f xs d (i + 1)
-filled-more f xs d i p q l m = rw add-one (ap₂ (λ (t : List ℕ) (v : ℕ). set t i v) p q ∙ fill f xs d i l m)
+  pub filled-more : (z : A) (xs : List A) (d : List B) (i : ℕ) {t : List B} {v : B}
+      → t ≡ filled xs d i → v ≡ f (getD xs i z) → i < length xs → i < length d → set t i v ≡ filled xs d (i + 1)
+  filled-more z xs d i p q l m = rw add-one (ap₂ (λ (t : List B) (v : B). set t i v) p q ∙ fill z xs d i l m)
 
 -- ---- the steps
 
@@ -158,18 +159,20 @@ module _ (k m : ℕ) (xs d : List ℕ) (n : length xs ≡ m) {t : List ℕ} (p :
 pub two-steps : (k m : ℕ) (xs d u : List ℕ) {t t′ u′ : List ℕ} → length xs ≡ m → t ≡ stepsTo k xs ++ d
     → u′ ≡ step k (take m t) ++ drop m u → t′ ≡ step (k + 1) (take m u′) ++ drop m t → t′ ≡ stepsTo (k + 2) xs ++ d
 two-steps k m xs d u {t} {t′} {u′} n p q r =
-    let q′ : u′ ≡ stepsTo (k + 1) xs ++ drop m u = rw add-one (q ∙ ap (λ (a : List ℕ). a ++ drop m u) (steps-more k m xs d n p)) in
+    let q′ : u′ ≡ stepsTo (k + 1) xs ++ drop m u =
+    rw add-one (q ∙ ap (λ (a : List ℕ). a ++ drop m u) (steps-more k m xs d n p)) in
     let e : suc (k + 1) ≡ k + 2 = omega arith in
     r
     ∙ ap₂ (λ (a b : List ℕ). a ++ b)
     (steps-more (k + 1) m xs (drop m u) n q′ ∙ ap (λ (i : ℕ). stepsTo i xs) e) (steps-rest k m xs d n p)
 
-pub closed-clipped : (m n : ℕ) (rows : List ℕ) → n ≡ min m (length rows) → stepsTo n (take n rows) ++ drop n rows ≡ closedFirst m rows
+-- after all steps
+pub closed-clipped : (m n : ℕ) (rows : List ℕ) → n ≡ min m (length rows)
+    → stepsTo n (take n rows) ++ drop n rows ≡ closedFirst m rows
 unfolding closure
 closed-clipped m n rows e =
     let d : n ≡ length (take m rows) = sym (length-clipped m n rows e) in
-    ap₂ (λ (a b : List ℕ). a ++ b)
-    (ap₂ stepsTo d (take-clipped m n rows e)) (drop-clipped m n rows e)
+    ap₂ (λ (a b : List ℕ). a ++ b) (ap₂ stepsTo d (take-clipped m n rows e)) (drop-clipped m n rows e)
 
 -- ---- the circle test
 

@@ -3,7 +3,7 @@ use mathlib.Core.Path.{_≡_, refl, sym, ap, ap₂, _∙_}
 use mathlib.Core.Logic.{_⊎_, inl, inr, _↔_}
 use Prim.Native.Nat.{ℕ, zero, suc, _+_, _*_, _/_, _%_, _^_, _-_, _≤_, _<_, max}
 use native.Mathlib.Nat.{add-zero, div-add-mod', div-eq-of-lt, div-one, lt-of-lt-of-le, mod-eq-of-lt, mod-lt, mul-assoc, one-mul, zero-div}
-use native.Mathlib.Decide.{decLt}
+use native.Mathlib.Decide.{decLt, ℕ-discrete}
 use native.Mathlib.Numerals.{add-one}
 use native.Mathlib.Omega.{arith}
 use lib.Arith.{digits-mod}
@@ -54,6 +54,15 @@ pub one-of : (x y : ℕ) → max x y ≡ 1 → (x ≡ 1) ⊎ (y ≡ 1)
 one-of zero y h = inr (omega arith)
 one-of (suc zero) y h = inl refl
 one-of (suc (suc x)) y h = inr (omega arith)
+
+-- two bits that are 1 in the same cases are equal
+pub same-bit : (x y : ℕ) → x < 2 → y < 2 → (x ≡ 1) ↔ (y ≡ 1) → x ≡ y
+same-bit x y lx ly i = go (ℕ-discrete x 1) (ℕ-discrete y 1)
+  where
+    go : Dec (x ≡ 1) → Dec (y ≡ 1) → x ≡ y
+    go (yes e) d = e ∙ sym (i .0 e)
+    go (no f) (yes e) = absurd (f (i .1 e))
+    go (no f) (no g) = omega arith
 
 -- ---- the low w bits of x, shifted up by k
 

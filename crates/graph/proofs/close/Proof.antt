@@ -34,12 +34,19 @@ step-from-requires c κs = search needs
 add-step-from : tie.Need-add-step-from Inv-loop μ-loop
 add-step-from c = search needs
 
--- the second table, once it is written
+-- each table is as long as before, once it is written
 second : (c : tie.After-step-from Inv-loop μ-loop) → length (c .step-from .last .1 .0) ≡ 64
 second c =
     let at = c .before .before .before .before in
-    length-stepped 64 (2 * at .loop .p) (at .before .nodes .result) (at .loop .t) (at .loop .u) (c .step-from .ensures)
-    (omega arith) (omega arith) (omega arith)
+    length-stepped 64 _ (at .before .nodes .result) (at .loop .t) (at .loop .u) (c .step-from .ensures) (omega arith) (omega arith)
+    (omega arith)
+
+first : (c : tie.After-step-from2 Inv-loop μ-loop) → length (c .step-from2 .last .1 .0) ≡ 64
+first c =
+    let one = c .before .before .before in
+    let at = one .before .before .before .before in
+    length-stepped 64 _ (at .before .nodes .result) (one .step-from .last .1 .0) (at .loop .t) (c .step-from2 .ensures) (omega arith)
+    (second one) (omega arith)
 
 step-from-requires-2 : tie.Need-step-from-requires-2 Inv-loop μ-loop
 step-from-requires-2 c κs = omega (arith, second (c .before .before))
@@ -52,18 +59,18 @@ loop-less c = search needs
 
 loop-again : tie.Need-loop-again Inv-loop μ-loop
 loop-again c =
-    let first = c .before .before .before in
-    let at = first .before .before .before .before in
+    let one = c .before .before .before in
+    let at = one .before .before .before .before in
     let p = at .loop .p in
     let m = at .before .nodes .result in
     let rows = at .before .before .args .rows in
     let e : 2 * p + 2 ≡ 2 * (p + 1) = omega arith in (
       omega arith,
-      length-stepped 64 (2 * p + 1) m (first .step-from .last .1 .0) (at .loop .t) (c .step-from2 .ensures) (omega arith) (second first) (omega arith),
-      second first,
+      first c,
+      second one,
       rw e at
           (two-steps (2 * p) m (take m rows) (drop m rows) (at .loop .u) (length-take-le m rows (omega arith)) (at .loop .inv .3)
-          (first .step-from .ensures) (c .step-from2 .ensures)),
+          (one .step-from .ensures) (c .step-from2 .ensures)),
     )
 
 returns : tie.Need-returns Inv-loop μ-loop

@@ -55,7 +55,7 @@ loop-again c =
     let at = c .before .before .before .before .before in
     let rows = at .loop .rows in (
       omega arith,
-      omega (arith, ap length (c .add-edge .ensures) ∙ length-link (source .result) (target .result) rows),
+      omega (arith, simp length-link at (ap length (c .add-edge .ensures))),
       ap (ownFrom 8 _ _ (at .loop .e + 1))
           (c .add-edge .ensures ∙ ap₂ (λ (i j : ℕ). link i j rows) (source .ensures) (target .ensures))
           ∙ own-more 8 _ _ (at .loop .e) rows (omega arith)

@@ -50,7 +50,7 @@ loop-again : tie.Need-loop-again Inv-loop μ-loop
 loop-again c =
     let at = c .before .before .before in
     let args = at .before .before .args in
-    (omega arith, filled-more _ (args .old .now) _ (at .loop .i) (at .loop .inv .1) (c .joined .ensures) (omega arith) (omega arith))
+    (omega arith, filled-more _ 0 (args .old .now) _ (at .loop .i) (at .loop .inv .1) (c .joined .ensures) (omega arith) (omega arith))
 
 returns : tie.Need-returns Inv-loop μ-loop
 returns c =
