@@ -1,0 +1,117 @@
+-- Combinations of entries: they stay where entries are added, and those of a turn are all combinations of its candidates. Assumes nothing.
+use mathlib.Core.Path.{_≡_, refl, sym, ap, _∙_, subst}
+use mathlib.Core.Logic.{_⊎_, inl, inr}
+use mathlib.Core.List.{List, [], _∷_, _++_, map, List·Memᴰ, List·Memᴰ·head, List·Memᴰ·tail, List·Memᴰ·not-nil, Memᴰ·append-left, Memᴰ·append-right, List·Memᴰ·append-cases}
+use Prim.Native.Nat.{ℕ, suc, _<_}
+use native.Mathlib.Omega.{arith}
+use lib.Dec.{eqb}
+use lib.ListN.{length, List·getD-append}
+use lib.Seq.{take-append-seam}
+use borrow.Author.Tests.{eqb-true, eq-eqb}
+use Rattle.numbers.specs.Lists.{upFrom}
+use Rattle.passes.specs.declared.Entry.{Entry}
+use Rattle.passes.specs.Passes.{System, noEntry, entry, graphs, seven, candidates, prefixed, combinations}
+use Rattle.orders.specs.Stored.{Fits, Combination, counting}
+use Rattle.orders.proofs.Members.{at-cons, keep-at, keep-mem, map-mem, mem-map, upFrom-at, upFrom-mem}
+
+pub entry-stays : (es more : List Entry) (i : ℕ) → i < length es → entry (es ++ more) i ≡ entry es i
+entry-stays es more i h = List·getD-append es more noEntry i h
+
+-- ---- entries are added
+pub fits-map : (es : List Entry) (P Q : ℕ → Type 0) → ((i : ℕ) → P i → Q i) → (c bs : List ℕ) → Fits es P c bs → Fits es Q c bs
+fits-map es P Q h [] [] f = tt
+fits-map es P Q h [] (b ∷ bs) f = f
+fits-map es P Q h (k ∷ c) [] f = f
+fits-map es P Q h (k ∷ c) (b ∷ bs) f = (h k (f .0), f .1, fits-map es P Q h c bs (f .2))
+
+pub fits-more : (es more : List Entry) (P : ℕ → Type 0) → ((i : ℕ) → P i → i < length es) → (c bs : List ℕ)
+    → Fits es P c bs → Fits (es ++ more) P c bs
+fits-more es more P h [] [] f = tt
+fits-more es more P h [] (b ∷ bs) f = f
+fits-more es more P h (k ∷ c) [] f = f
+fits-more es more P h (k ∷ c) (b ∷ bs) f =
+    (f .0, ap (λ (e : Entry). e .symbol) (entry-stays es more k (h k (f .0))) ∙ f .1, fits-more es more P h c bs (f .2))
+
+pub fits-less : (es more : List Entry) (P : ℕ → Type 0) → ((i : ℕ) → P i → i < length es) → (c bs : List ℕ)
+    → Fits (es ++ more) P c bs → Fits es P c bs
+fits-less es more P h [] [] f = tt
+fits-less es more P h [] (b ∷ bs) f = f
+fits-less es more P h (k ∷ c) [] f = f
+fits-less es more P h (k ∷ c) (b ∷ bs) f =
+    (f .0, ap (λ (e : Entry). e .symbol) (sym (entry-stays es more k (h k (f .0)))) ∙ f .1, fits-less es more P h c bs (f .2))
+
+pub graphs-stay : (es more : List Entry) (P : ℕ → Type 0) → ((i : ℕ) → P i → i < length es) → (c bs : List ℕ)
+    → Fits es P c bs → graphs (es ++ more) c ≡ graphs es c
+graphs-stay es more P h [] [] f = refl
+graphs-stay es more P h [] (b ∷ bs) f = absurd f
+graphs-stay es more P h (k ∷ c) [] f = absurd f
+graphs-stay es more P h (k ∷ c) (b ∷ bs) f =
+    rw (entry-stays es more k (h k (f .0)), graphs-stay es more P h c bs (f .2))
+
+-- ---- the seven slots
+fits-length : (es : List Entry) (P : ℕ → Type 0) (c bs : List ℕ) → Fits es P c bs → length c ≡ length bs
+fits-length es P [] [] f = refl
+fits-length es P [] (b ∷ bs) f = absurd f
+fits-length es P (k ∷ c) [] f = absurd f
+fits-length es P (k ∷ c) (b ∷ bs) f = ap suc (fits-length es P c bs (f .2))
+
+-- the slots that count are the combination
+pub counting-seven : (W : System) (es : List Entry) (P : ℕ → Type 0) (p : ℕ) (c : List ℕ) → Fits es P c (W .rights p)
+    → counting W p (seven c) ≡ c
+unfolding seven
+counting-seven W es P p c f = rw (← fits-length es P c (W .rights p) f) (take-append-seam c _)
+
+-- ---- the combinations of a turn
+prefixed-at : (xs : List ℕ) (rest : List (List ℕ)) {x : ℕ} {c : List ℕ} → List·Memᴰ x xs → List·Memᴰ c rest
+    → List·Memᴰ (x ∷ c) (prefixed xs rest)
+unfolding prefixed
+prefixed-at [] rest m n = absurd (List·Memᴰ·not-nil m)
+prefixed-at (y ∷ xs) rest {x} {c} m n =
+    at-cons (λ z. List·Memᴰ (z ∷ c) (map (λ d. y ∷ d) rest ++ prefixed xs rest)) y
+    (Memᴰ·append-left (prefixed xs rest) (map-mem (λ d. y ∷ d) rest n))
+    (λ k. Memᴰ·append-right (map (λ d. y ∷ d) rest) (prefixed-at xs rest k n)) m
+
+pub record Front (xs : List ℕ) (rest : List (List ℕ)) (z : List ℕ) : Type 0 where
+  pub first : ℕ
+  pub others : List ℕ
+  pub here : List·Memᴰ first xs
+  pub there : List·Memᴰ others rest
+  pub joined : z ≡ first ∷ others
+
+prefixed-mem : (xs : List ℕ) (rest : List (List ℕ)) {z : List ℕ} → List·Memᴰ z (prefixed xs rest) → Front xs rest z
+unfolding prefixed
+prefixed-mem [] rest m = absurd (List·Memᴰ·not-nil m)
+prefixed-mem (y ∷ xs) rest {z} m = go (List·Memᴰ·append-cases (map (λ d. y ∷ d) rest) m) (λ n. prefixed-mem xs rest n)
+  where
+    go : List·Memᴰ z (map (λ d. y ∷ d) rest) ⊎ List·Memᴰ z (prefixed xs rest)
+        → (List·Memᴰ z (prefixed xs rest) → Front xs rest z) → Front (y ∷ xs) rest z
+    go (inl n) k =
+        let r = mem-map (λ d. y ∷ d) rest n in
+        record { first = y; others = r .0; here = List·Memᴰ·head refl; there = r .1; joined = r .2 }
+    go (inr n) k =
+        let r = k n in
+        record { first = r .first; others = r .others; here = List·Memᴰ·tail (r .here); there = r .there; joined = r .joined }
+
+pub combinations-at : (es : List Entry) (c bs : List ℕ) → Combination es (length es) c bs
+    → List·Memᴰ c (combinations (map (candidates es) bs))
+unfolding combinations candidates
+combinations-at es [] [] f = List·Memᴰ·head refl
+combinations-at es [] (b ∷ bs) f = absurd f
+combinations-at es (k ∷ c) [] f = absurd f
+combinations-at es (k ∷ c) (b ∷ bs) f =
+    prefixed-at (candidates es b) (combinations (map (candidates es) bs))
+    (keep-at (λ i. eqb (entry es i .symbol) b) (upFrom 0 (length es)) (upFrom-at 0 (length es) k (omega arith) (omega (arith, f .0)))
+    (eq-eqb (entry es k .symbol) b (f .1)))
+    (combinations-at es c bs (f .2))
+
+pub combinations-fit : (es : List Entry) (c bs : List ℕ) → List·Memᴰ c (combinations (map (candidates es) bs))
+    → Combination es (length es) c bs
+unfolding combinations candidates
+combinations-fit es c [] m =
+    at-cons (λ z. Combination es (length es) z []) [] tt (λ n. absurd (List·Memᴰ·not-nil n)) m
+combinations-fit es c (b ∷ bs) m =
+    let r = prefixed-mem (candidates es b) (combinations (map (candidates es) bs)) m in
+    let k = keep-mem (λ i. eqb (entry es i .symbol) b) (upFrom 0 (length es)) (r .here) in
+    let u = upFrom-mem 0 (length es) (k .0) in
+    subst (λ z. Combination es (length es) z (b ∷ bs)) (sym (r .joined))
+    (omega (arith, u .1), eqb-true (entry es (r .first) .symbol) b (k .1), combinations-fit es (r .others) bs (r .there))

@@ -1,0 +1,1 @@
+// No code: what is shown of runs of the passes stands in specs/ and proofs/.
