@@ -4,3 +4,6 @@ pub use Rattle.passes.proofs.Borders.{borders}
 pub use Rattle.passes.proofs.Growth.{fuel-suffices, grown-pass}
 pub use Rattle.passes.proofs.Nested.{tries-nested}
 pub mod Bridge
+pub mod Trees
+pub mod Room
+pub mod Demands

@@ -1,0 +1,284 @@
+-- The demands, proved. Assumes nothing.
+use mathlib.Core.Path.{_≡_, refl, sym, ap, _∙_, subst, subst₂}
+use mathlib.Core.Bool.{Bool, true, false, cond}
+use mathlib.Core.List.{List, [], _∷_, List·Memᴰ}
+use mathlib.Core.Logic.{_⊎_, inl, inr, _↔_}
+use Prim.Native.Nat.{ℕ, zero, suc, _+_, _*_, _^_, _≤_, _<_}
+use native.Mathlib.Omega.{arith}
+use native.Mathlib.Decide.{decLt, ℕ-discrete}
+use lib.Dec.{eqb, eqb·suc-zero}
+use lib.ListN.{length}
+use Rattle.numbers.specs.Paths.{Circle}
+use Rattle.grammar.specs.Grammar.{Grammar}
+use Rattle.grammar.specs.Table.{grammarOf}
+use Rattle.grammar.specs.Rules.{Breaks}
+use Rattle.grammar.specs.Refusal.{refusal}
+use Rattle.trees.specs.Lists.{Distinct}
+use Rattle.trees.specs.Tree.{Tree, Instance, InTable, TreeEdge, instances, Valid, AtMost}
+use Rattle.trees.specs.Compound.{NumberHolds}
+use Rattle.trees.specs.Evaluator.{State, left, given, Reached}
+use Rattle.trees.specs.Record as record-of-trees
+use Rattle.trees.specs.Record.{pairs, OfTree}
+use Rattle.trees.proofs.Saturation.{none-circular}
+use Rattle.trees.proofs.Evaluators as evaluators
+use Rattle.passes.specs.declared.Answer.{Answer}
+use Rattle.passes.specs.declared.Answer.the-variants.{Noncircular, Circular, Refused, OutOfSteps, OutOfRoom}
+use Rattle.passes.specs.declared.Entry.{Entry}
+use Rattle.passes.specs.Passes.{Outcome, outcome, noRoot, empty, entry, numbered, passes}
+use Rattle.passes.specs.Test.{systemOf, byNumber, test}
+use Rattle.orders.specs.Answers as runs
+use Rattle.orders.specs.Stored.{In}
+use Rattle.orders.proofs.Answers as runs-shown
+use Rattle.verdict.specs.Demands.{back, answer, TreeOf, HasCircle, told, shownTree, TreePair, RefusedExactly, CircularShown, NoncircularNone, StepsExactly, RoomExactly, MorePairs, RoomCounts, NeverStill, StandsStillLeft}
+use Rattle.verdict.proofs.Trees.{root-complete, root-circle, saturated}
+use Rattle.verdict.proofs.Room.{stored-once, stored-pairs, pairs-stored, no-more, one-more}
+
+-- ---- the cases of an answer are told apart
+abbrev case : Answer → ℕ
+case Noncircular = 0
+case (Circular p) = 1
+case (Refused k) = 2
+case OutOfSteps = 3
+case OutOfRoom = 4
+
+-- the number of a rule that a table breaks is no other answer's
+broken : (w : ℕ) (bs : List ℕ) (k : ℕ) → Breaks w bs k → numbered k ≡ Refused k
+unfolding numbered
+broken w bs k (Breaks.header-short a) = refl
+broken w bs k (Breaks.counts a b) = refl
+broken w bs k (Breaks.offsets a b c) = refl
+broken w bs k (Breaks.symbol-bad a b c d) = refl
+broken w bs k (Breaks.production-bad a b c d e) = refl
+broken w bs k (Breaks.edge-bad a i b c d) = refl
+broken w bs k (Breaks.edge-order a i b c d e) = refl
+
+some-rule : (w : ℕ) (bs : List ℕ) (k : ℕ) → Breaks w bs k → (j : ℕ) × (k ≡ suc j)
+some-rule w bs k (Breaks.header-short a) = (0, refl)
+some-rule w bs k (Breaks.counts a b) = (1, refl)
+some-rule w bs k (Breaks.offsets a b c) = (2, refl)
+some-rule w bs k (Breaks.symbol-bad a b c d) = (3, refl)
+some-rule w bs k (Breaks.production-bad a b c d e) = (4, refl)
+some-rule w bs k (Breaks.edge-bad a i b c d) = (5, refl)
+some-rule w bs k (Breaks.edge-order a i b c d e) = (6, refl)
+
+module _ (bs : List ℕ)
+    (exactly : (k : ℕ) → (refusal 8 bs ≡ suc k) ↔ Breaks 8 bs (suc k))
+    (obeys : refusal 8 bs ≡ 0 → Valid (grammarOf bs) × AtMost 8 (grammarOf bs)) where
+  abbrev ran : ℕ → ℕ → Outcome
+  ran limit room = passes (systemOf 8 (grammarOf bs)) limit room (byNumber (grammarOf bs))
+
+  -- either the passes are run, or the table breaks a rule
+  taken : refusal 8 bs ≡ 0 → (limit room : ℕ) → back bs limit room ≡ ran limit room
+  unfolding test
+  taken e limit room = rw e
+
+  turned-away : (k : ℕ) → refusal 8 bs ≡ suc k → (limit room : ℕ) → back bs limit room ≡ outcome (numbered (suc k)) noRoot empty 0
+  unfolding test
+  turned-away k e limit room =
+      ap (λ (n : ℕ). cond (eqb n 0) (ran limit room) (outcome (numbered n) noRoot empty 0)) e
+      ∙ ap (λ (b : Bool). cond b (ran limit room) (outcome (numbered (suc k)) noRoot empty 0)) (eqb·suc-zero k)
+
+  refused : (k : ℕ) → Breaks 8 bs k → (limit room : ℕ) → back bs limit room ≡ outcome (Refused k) noRoot empty 0
+  refused k b limit room =
+      let j = some-rule 8 bs k b in
+      turned-away (j .0) (exactly (j .0) .1 (subst (Breaks 8 bs) (j .1) b)) limit room
+      ∙ ap (λ (a : Answer). outcome a noRoot empty 0) (ap numbered (sym (j .1)) ∙ broken 8 bs k b)
+
+  either : (refusal 8 bs ≡ 0) ⊎ ((k : ℕ) × Breaks 8 bs k)
+  either = go (refusal 8 bs) refl
+    where
+      go : (n : ℕ) → refusal 8 bs ≡ n → (refusal 8 bs ≡ 0) ⊎ ((k : ℕ) × Breaks 8 bs k)
+      go zero e = inl e
+      go (suc k) e = inr (suc k, exactly k .0 e)
+
+  -- an answer other than a refusal is that of the passes
+  not-refused : (limit room : ℕ) (a : Answer) → answer bs limit room ≡ a → ¬ (case a ≡ 2) → refusal 8 bs ≡ 0
+  not-refused limit room a h n = go either
+    where
+      go : (refusal 8 bs ≡ 0) ⊎ ((k : ℕ) × Breaks 8 bs k) → refusal 8 bs ≡ 0
+      go (inl e) = e
+      go (inr (k, b)) = absurd (n (ap case (sym h) ∙ ap (λ (o : Outcome). case (o .report .answer)) (refused k b limit room)))
+
+  -- ---- demand 1
+  pub refused-exactly : (limit room k : ℕ) → RefusedExactly bs limit room k
+  refused-exactly limit room k = record {
+    exactly = (λ h. go h either, λ b. ap (λ (o : Outcome). o .report .answer) (refused k b limit room));
+    nothing = λ b. refused k b limit room;
+  }
+    where
+      sound-answer : refusal 8 bs ≡ 0 → runs.Says (systemOf 8 (grammarOf bs)) (In (byNumber (grammarOf bs))) limit room (ran limit room) (ran limit room .report .answer)
+      sound-answer e = runs-shown.outcome-sound (systemOf 8 (grammarOf bs)) (byNumber (grammarOf bs)) limit room .says
+
+      go : answer bs limit room ≡ Refused k → (refusal 8 bs ≡ 0) ⊎ ((j : ℕ) × Breaks 8 bs j) → Breaks 8 bs k
+      go h (inl e) =
+          absurd
+          (subst (runs.Says (systemOf 8 (grammarOf bs)) (In (byNumber (grammarOf bs))) limit room (ran limit room))
+          (ap (λ (o : Outcome). o .report .answer) (sym (taken e limit room)) ∙ h) (sound-answer e))
+      go h (inr (j, b)) =
+          let q : Refused j ≡ Refused k = ap (λ (o : Outcome). o .report .answer) (sym (refused j b limit room)) ∙ h in
+          let n : j ≡ k = cc in
+          subst (Breaks 8 bs) n b
+
+  -- ---- demand 2
+  module _ (good : refusal 8 bs ≡ 0) where
+    abbrev g : Grammar
+    g = grammarOf bs
+
+    abbrev valid : Valid (grammarOf bs)
+    valid = obeys good .0
+
+    abbrev few : AtMost 8 (grammarOf bs)
+    few = obeys good .1
+
+    sound : (limit room : ℕ) → runs.Sound (systemOf 8 (grammarOf bs)) (In (byNumber (grammarOf bs))) limit room (back bs limit room)
+    sound limit room =
+        subst (runs.Sound (systemOf 8 (grammarOf bs)) (In (byNumber (grammarOf bs))) limit room) (sym (taken good limit room))
+        (runs-shown.outcome-sound (systemOf 8 (grammarOf bs)) (byNumber (grammarOf bs)) limit room)
+
+  pub circular-shown : (limit room p : ℕ) → answer bs limit room ≡ Circular p → CircularShown bs limit room p
+  circular-shown limit room p h =
+      let good = not-refused limit room (Circular p) h (λ e. omega arith) in
+      let s = sound good limit room in
+      let root = subst (runs.Says (systemOf 8 (grammarOf bs)) (In (byNumber (grammarOf bs))) limit room (back bs limit room)) h (s .says) in
+      record {
+        complete =
+            root-complete 8 (grammarOf bs) (obeys good .0) (obeys good .1) (back bs limit room .entries) (s .made) p
+            (back bs limit room .report .root) root;
+        circle =
+            root-circle 8 (grammarOf bs) (obeys good .0) (obeys good .1) (back bs limit room .entries) (s .made) p
+            (back bs limit room .report .root) root;
+      }
+
+  -- after noncircular the store has every tree
+  full : (limit room : ℕ) → answer bs limit room ≡ Noncircular
+      → record-of-trees.Saturated (grammarOf bs) (NumberHolds 8) (InTable (grammarOf bs)) (told (grammarOf bs) (back bs limit room .entries))
+      (length (back bs limit room .entries))
+  full limit room h =
+      let good = not-refused limit room Noncircular h (λ e. omega arith) in
+      let s = sound good limit room in
+      saturated 8 (grammarOf bs) (obeys good .0) (obeys good .1) (back bs limit room .entries)
+      (subst (runs.Says (systemOf 8 (grammarOf bs)) (In (byNumber (grammarOf bs))) limit room (back bs limit room)) h (s .says) .0)
+
+  pub noncircular-none : (limit room : ℕ) → answer bs limit room ≡ Noncircular → NoncircularNone bs
+  noncircular-none limit room h t w c =
+      none-circular (grammarOf bs) (NumberHolds 8) (InTable (grammarOf bs)) (told (grammarOf bs) (back bs limit room .entries))
+      (length (back bs limit room .entries)) (full limit room h) (t, w, c)
+
+  pub steps-exactly : (L M room : ℕ) → L < M → StepsExactly bs L M room
+  steps-exactly L M room lt = go either
+    where
+      go : (refusal 8 bs ≡ 0) ⊎ ((k : ℕ) × Breaks 8 bs k) → StepsExactly bs L M room
+      go (inl e) =
+          let x = runs-shown.steps-exactly (systemOf 8 (grammarOf bs)) (byNumber (grammarOf bs)) L M room lt in
+          let y = subst₂ (runs.StepsCompared L) (sym (taken e L room)) (sym (taken e M room)) x in
+          record { exactly = y .exactly; else = y .else }
+      go (inr (k, b)) =
+          let l = refused k b L room in
+          let m = refused k b M room in
+          record {
+            exactly = (
+              λ h. absurd (let z : _≡_ {A = ℕ} 2 3 = ap (λ (o : Outcome). case (o .report .answer)) (sym l) ∙ ap case h in omega arith),
+              λ h. absurd (omega (arith, ap (λ (o : Outcome). o .report .closures) m)),
+            );
+            else = λ _. m ∙ sym l;
+          }
+
+  pub room-exactly : (limit l R S : ℕ) → R < S → back bs limit R .report .closures ≤ l → l ≤ limit → RoomExactly bs limit l R S
+  room-exactly limit l R S lt low high = go either
+    where
+      go : (refusal 8 bs ≡ 0) ⊎ ((k : ℕ) × Breaks 8 bs k) → RoomExactly bs limit l R S
+      go (inl e) =
+          let W = systemOf 8 (grammarOf bs) in
+          let c = ap (λ (o : Outcome). o .report .closures) (taken e limit R) in
+          let x = runs-shown.room-exactly W (byNumber (grammarOf bs)) limit R S l lt (omega arith) high in
+          let y = subst₂ (runs.RoomCompared R) (sym (taken e limit R)) (sym (taken e l S)) x in
+          let s = runs-shown.outcome-sound W (byNumber (grammarOf bs)) limit R in
+          let u = runs-shown.room-exactly W (byNumber (grammarOf bs)) limit R S limit lt (s .closures) (omega arith) in
+          let v = subst₂ (runs.RoomCompared R) (sym (taken e limit R)) (sym (taken e limit S)) u in
+          record { exactly = y .exactly; else = v .else }
+      go (inr (k, b)) =
+          let m = refused k b limit R in
+          let n = refused k b l S in
+          record {
+            exactly = (
+              λ h. absurd (let z : _≡_ {A = ℕ} 2 4 = ap (λ (o : Outcome). case (o .report .answer)) (sym m) ∙ ap case h in omega arith),
+              λ h. absurd (omega (arith, ap (λ (o : Outcome). length (o .entries)) n)),
+            );
+            else = λ _. refused k b limit S ∙ sym m;
+          }
+
+  -- 01's claim on room
+  pub room-counts : (limit R : ℕ) → refusal 8 bs ≡ 0 → NoncircularNone bs → ¬ (answer bs limit R ≡ OutOfSteps) → RoomCounts bs limit R
+  room-counts limit R good calm enough = go (answer bs limit R) refl (sound good limit R .says)
+    where
+      pair : (q : ℕ × ℕ) → (q .1 < 2 ^ 64) × OfTree (grammarOf bs) (NumberHolds 8) (InTable (grammarOf bs)) q → TreePair bs q
+      pair q h = record { number = h .0; of-tree = h .1 }
+
+      go : (a : Answer) → answer bs limit R ≡ a
+          → runs.Says (systemOf 8 (grammarOf bs)) (In (byNumber (grammarOf bs))) limit R (back bs limit R) a → RoomCounts bs limit R
+      go Noncircular h says =
+          let s = sound good limit R in
+          let g = grammarOf bs in
+          let es = back bs limit R .entries in
+          let full = saturated 8 g (obeys good .0) (obeys good .1) es (says .0) in
+          let o = obeys good in
+          record {
+            exactly = (
+              λ k. absurd (let z : _≡_ {A = ℕ} 0 4 = ap case (sym h ∙ k) in omega arith),
+              λ m.
+                  absurd
+                  (omega (
+                    arith,
+                    m .2,
+                    s .entries,
+                    no-more 8 g (o .0) (o .1) es (s .made) (s .different) full (m .0) (m .1) (λ q k. (m .3 q k .number, m .3 q k .of-tree)),
+                  )),
+            );
+            once = stored-once 8 g (o .0) (o .1) es (s .made) (s .different);
+            those = λ _ q. (
+              λ m. pair q (stored-pairs 8 g (o .0) (o .1) es (s .made) (s .different) q m),
+              λ m. pairs-stored 8 g (o .0) (o .1) es (s .made) (s .different) full q (m .number, m .of-tree),
+            );
+          }
+      go (Circular p) h says =
+          let c = circular-shown limit R p h in
+          absurd (calm (shownTree bs (back bs limit R) p) (c .complete) (c .circle))
+      go (Refused k) h says = absurd says
+      go OutOfSteps h says = absurd (enough h)
+      go OutOfRoom h says =
+          let s = sound good limit R in
+          let g = grammarOf bs in
+          let es = back bs limit R .entries in
+          let o = obeys good in
+          let x = says .1 in
+          let l = one-more 8 g (o .0) (o .1) es (s .made) (s .different) (x .extra) (x .made) (x .new) in
+          record {
+            exactly = (λ _. (l .0, l .1, omega (arith, l .2, says .0), λ q k. pair q (l .3 q k)), λ _. h);
+            once = stored-once 8 g (o .0) (o .1) es (s .made) (s .different);
+            those = λ n. absurd (n h);
+          }
+
+  -- ---- demand 3
+  pub never-still : (limit room : ℕ) → answer bs limit room ≡ Noncircular → (t : Tree) → TreeOf bs t → NeverStill bs t
+  never-still limit room h t w =
+      let good = not-refused limit room Noncircular h (λ e. omega arith) in
+      let none = noncircular-none limit room h t w in
+      record {
+        goes-on = evaluators.never-still (grammarOf bs) (obeys good .0) (InTable (grammarOf bs)) t w none;
+        all-computed = λ {n} {d} r s. evaluators.all-computed (grammarOf bs) (obeys good .0) (InTable (grammarOf bs)) t w none r s .0;
+        ends = λ {n} {d} r. omega (arith, evaluators.takings (grammarOf bs) t r);
+      }
+
+  pub stands-still : (limit room p : ℕ) → answer bs limit room ≡ Circular p → StandsStillLeft bs (shownTree bs (back bs limit room) p)
+  stands-still limit room p h =
+      let good = not-refused limit room (Circular p) h (λ e. omega arith) in
+      let c = circular-shown limit room p h in
+      let t = shownTree bs (back bs limit room) p in
+      record {
+        left-over = λ {n} {d} r.
+            let x = c .circle in
+            let y = evaluators.left-over (grammarOf bs) (obeys good .0) (InTable (grammarOf bs)) t (c .complete) r (x .0) (x .1) in
+            (x .0, y .0, y .1);
+        stands = evaluators.stood (grammarOf bs) t;
+        ends = λ {n} {d} r. evaluators.run-ends (grammarOf bs) t r;
+      }

@@ -1,0 +1,89 @@
+-- 01's claim on room: out of room exactly if the trees have more pairs of root symbol and graph than the room; else the entries are those
+-- pairs, each once. For a sound outcome of a grammar none of whose trees has a circle. Assumes nothing.
+use mathlib.Core.Path.{_≡_, refl, sym, ap, _∙_, subst}
+use mathlib.Core.List.{List, [], _∷_, List·Memᴰ, List·Memᴰ·head, List·Memᴰ·tail, Memᴰ·cast, Memᴰ·map, Memᴰ·of-map, List·Memᴰ·cases-cons}
+use mathlib.Core.Logic.{_⊎_, inl, inr, ⊎-elim, _↔_}
+use Prim.Native.Nat.{ℕ, suc, _*_, _^_, _≤_, _<_}
+use native.Mathlib.Omega.{arith}
+use lib.ListN.{length}
+use Rattle.numbers.specs.Lists.{upFrom}
+use Rattle.grammar.specs.Grammar.{Grammar}
+use Rattle.trees.specs.Lists.{Distinct}
+use Rattle.trees.specs.Tree.{Tree, InTable, Valid, AtMost}
+use Rattle.trees.specs.Compound.{NumberHolds}
+use Rattle.trees.specs.Record as record-of-trees
+use Rattle.trees.specs.Record.{pairs, OfTree}
+use Rattle.trees.proofs.Lists.{of-upFrom, upFrom-holds}
+use Rattle.trees.proofs.Numbers.{told-apart}
+use Rattle.trees.proofs.Saturation.{all-stored}
+use Rattle.trees.proofs.Counting.{length-pairs, pairs-differ, pairs-of-trees, one-graph, counting-numbers}
+use Rattle.passes.specs.declared.Entry.{Entry}
+use Rattle.passes.specs.Passes.{entry}
+use Rattle.passes.specs.Test.{systemOf, byNumber}
+use Rattle.orders.specs.Stored.{In, Made, Different, Holds}
+use Rattle.verdict.specs.Demands.{told}
+use Rattle.verdict.proofs.Trees.{small, all-derived, next-tree}
+
+module _ (w : ℕ) (g : Grammar) (valid : Valid g) (few : AtMost w g) (es : List Entry)
+    (made : (k : ℕ) → k < length es → Made (systemOf w g) (In (byNumber g)) es k (entry es k)) (different : Different es) where
+  -- the number of a graph of some tree, with its root symbol
+  abbrev pub Pair : ℕ × ℕ → Type 0
+  Pair q = (q .1 < 2 ^ (w * w)) × OfTree g (NumberHolds w) (InTable g) q
+
+  abbrev pub stored : List (ℕ × ℕ)
+  stored = pairs (told g es) (length es)
+
+  pub stored-once : Distinct (pairs (told g es) (length es))
+  stored-once = pairs-differ (told g es) (length es) different
+
+  abbrev pairAt : ℕ → ℕ × ℕ
+  pairAt k = (entry es k .symbol, entry es k .graph)
+
+  low : (k : ℕ) → k < length es → entry es k .graph < 2 ^ (w * w)
+  low k l = small w g valid few es k (entry es k) (made k l)
+
+  pub stored-pairs : (q : ℕ × ℕ) → List·Memᴰ q (pairs (told g es) (length es)) → Pair q
+  stored-pairs q m =
+      let r = Memᴰ·of-map pairAt (upFrom 0 (length es)) m in
+      let l : r .0 < length es = omega (arith, of-upFrom 0 (length es) (r .0) (r .1) .1) in (
+        subst (λ (z : ℕ × ℕ). z .1 < 2 ^ (w * w)) (r .2) (low (r .0) l),
+        pairs-of-trees (told g es) (length es) g (NumberHolds w) (InTable g) (all-derived w g valid few es made) q m,
+      )
+
+  -- a saturated store
+  module _ (full : record-of-trees.Saturated g (NumberHolds w) (InTable g) (told g es) (length es)) where
+    pub pairs-stored : (q : ℕ × ℕ) → Pair q → List·Memᴰ q (pairs (told g es) (length es))
+    pairs-stored q (s, (t, o)) =
+        let k = all-stored g (NumberHolds w) (InTable g) (told g es) (length es) full t (o .complete) in
+        let e =
+        one-graph g (NumberHolds w) (InTable g) (told g es) (length es) (λ x. x < 2 ^ (w * w)) (told-apart w) low (entry es (k .number) .graph)
+        (q .1) (low (k .number) (k .among)) s t (k .graph) (o .is-graph) in
+        let here : _≡_ {A = ℕ × ℕ} q (pairAt (k .number)) = λ i. (sym (k .symbol ∙ o .symbol) i, sym e i) in
+        Memᴰ·cast here (Memᴰ·map pairAt (upFrom-holds 0 (length es) (k .number) (omega arith) (omega (arith, k .among))))
+
+    pub no-more : (l : List (ℕ × ℕ)) → Distinct l → ((q : ℕ × ℕ) → List·Memᴰ q l → Pair q) → length l ≤ length es
+    no-more = counting-numbers g w (InTable g) (told g es) (length es) low full
+
+  -- a pair that is not stored, made of the entries: with the entries it is one more
+  pub one-more : (e : Entry) → Made (systemOf w g) (In (byNumber g)) es (length es) e → (Holds es (e .symbol) (e .graph) → ⊥)
+      → (l : List (ℕ × ℕ)) × Distinct l × (length es < length l) × ((q : ℕ × ℕ) → List·Memᴰ q l → Pair q)
+  one-more e m new = (
+    (e .symbol, e .graph) ∷ stored,
+    (fresh, stored-once),
+    omega (arith, length-pairs (told g es) (length es)),
+    λ q k.
+        ⊎-elim
+        (λ h. subst Pair (sym h) (small w g valid few es (length es) e m, next-tree w g valid few es made e m))
+        (stored-pairs q)
+        (List·Memᴰ·cases-cons k),
+  )
+    where
+      fresh : ¬ List·Memᴰ {A = ℕ × ℕ} (e .symbol, e .graph) (pairs (told g es) (length es))
+      fresh k =
+          let r = Memᴰ·of-map pairAt (upFrom 0 (length es)) k in
+          new (record {
+            number = r .0;
+            among = omega (arith, of-upFrom 0 (length es) (r .0) (r .1) .1);
+            symbol = ap (λ (z : ℕ × ℕ). z .0) (r .2);
+            graph = ap (λ (z : ℕ × ℕ). z .1) (r .2);
+          })

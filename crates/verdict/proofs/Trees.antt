@@ -1,0 +1,145 @@
+-- From what the passes store to trees: each entry is derived, a circular root has a circle, a saturated store has every tree. Over the
+-- number w of attributes, for any outcome that is sound. Assumes nothing.
+use mathlib.Core.Path.{_≡_, refl, sym, ap, _∙_, subst}
+use mathlib.Core.Bool.{Bool, true, false, true≢false}
+use mathlib.Core.List.{List, [], _∷_, List·Memᴰ}
+use mathlib.Core.Logic.{_⊎_, inl, inr, _↔_}
+use Prim.Native.Nat.{ℕ, _+_, _*_, _^_, _≤_, _<_}
+use native.Mathlib.Omega.{arith}
+use lib.ListN.{length}
+use Rattle.numbers.specs.Lists.{upFrom}
+use Rattle.numbers.specs.Paths.{Circle}
+use Rattle.grammar.specs.Grammar.{Grammar, production, rights}
+use Rattle.graph.proofs.Root.{root-lt}
+use Rattle.trees.specs.Tree.{Complete, InTable, TreeEdge, Circular, Valid, AtMost}
+use Rattle.trees.specs.Compound.{OverGraphs, Makes, NumberHolds}
+use Rattle.trees.specs.Record as record-of-trees
+use Rattle.trees.specs.Record.{shown, Derived, Shows, OfTree}
+use Rattle.trees.proofs.Lists.{of-upFrom, upFrom-holds}
+use Rattle.trees.proofs.Shown.{graphs-count, shown-complete, shown-graph, shown-circle}
+use Rattle.passes.specs.declared.Entry.{Entry}
+use Rattle.passes.specs.Passes.{System, entry, graphs}
+use Rattle.passes.specs.Test.{closed, systemOf, byNumber}
+use Rattle.orders.specs.Stored.{In, Combination, counting, Made, Root, Holds, Saturated}
+use Rattle.verdict.specs.Demands.{kidsOf, told}
+use Rattle.verdict.proofs.Bridge.{circle-so, graph-so}
+
+module _ (g : Grammar) where
+  -- the productions by number are those of the table
+  pub in-table : (p : ℕ) → In (byNumber g) p → InTable g p
+  in-table p m = omega (arith, of-upFrom 0 (length (g .productions)) p m .1)
+
+  pub by-number : (p : ℕ) → InTable g p → In (byNumber g) p
+  by-number p h = upFrom-holds 0 (length (g .productions)) p (omega arith) (omega arith)
+
+  module _ (es : List Entry) (n : ℕ) where
+    pub fits-told : (c ss : List ℕ) → Combination es n c ss → record-of-trees.Fits (told g es) n c ss
+    fits-told [] [] f = tt
+    fits-told [] (s ∷ ss) f = absurd f
+    fits-told (k ∷ c) [] f = absurd f
+    fits-told (k ∷ c) (s ∷ ss) (l, e, f) = (l, e, fits-told c ss f)
+
+    pub told-fits : (c ss : List ℕ) → record-of-trees.Fits (told g es) n c ss → Combination es n c ss
+    told-fits [] [] f = tt
+    told-fits [] (s ∷ ss) f = absurd f
+    told-fits (k ∷ c) [] f = absurd f
+    told-fits (k ∷ c) (s ∷ ss) (l, e, f) = (l, e, told-fits c ss f)
+
+module _ (w : ℕ) (g : Grammar) (valid : Valid g) (few : AtMost w g) where
+  abbrev W : System
+  W = systemOf w g
+
+  -- a combination has a graph for each right symbol
+  counted : (es : List Entry) (n p : ℕ) (c : List ℕ) → Combination es n c (rights (production g p)) → length (graphs es c) ≡ production g p .n
+  counted es n p c f = graphs-count g valid (told g es) n p c (fits-told g es n c (rights (production g p)) f)
+
+  -- what is made of entries: the graph that its production makes of theirs, a number of w * w bits
+  module _ (es : List Entry) (n : ℕ) (e : Entry) (m : Made (systemOf w g) (In (byNumber g)) es n e) where
+    abbrev kids : List ℕ
+    kids = kidsOf g (e .production) (e .kids)
+
+    made-fits : record-of-trees.Fits (told g es) n (kidsOf g (e .production) (e .kids)) (rights (production g (e .production)))
+    unfolding systemOf
+    made-fits = fits-told g es n kids (rights (production g (e .production))) (m .kids .fits)
+
+    made-graph : Makes g (NumberHolds w) (e .production) (graphs es (kidsOf g (e .production) (e .kids))) (e .graph)
+    unfolding systemOf
+    made-graph =
+        subst (Makes g (NumberHolds w) (e .production) (graphs es kids)) (sym (m .graph))
+        (graph-so w g valid few (e .production) (graphs es kids) (counted es n (e .production) kids (m .kids .fits)))
+
+    made-left : production g (e .production) .left ≡ e .symbol
+    unfolding systemOf
+    made-left = sym (m .symbol)
+
+    pub small : e .graph < 2 ^ (w * w)
+    unfolding systemOf
+    small = rw (m .graph) (root-lt w (closed w g (e .production) (graphs es kids)))
+
+  pub derived : (es : List Entry) (k : ℕ) → Made (systemOf w g) (In (byNumber g)) es k (entry es k)
+      → Derived g (NumberHolds w) (InTable g) (told g es) k
+  derived es k m =
+      let e = entry es k in
+      record {
+        part = in-table g (e .production) (m .kids .part);
+        left = made-left es k e m;
+        right = made-fits es k e m;
+        made = made-graph es k e m;
+      }
+
+  module _ (es : List Entry) (made : (k : ℕ) → k < length es → Made (systemOf w g) (In (byNumber g)) es k (entry es k)) where
+    pub all-derived : (k : ℕ) → k < length es → Derived g (NumberHolds w) (InTable g) (told g es) k
+    all-derived k l = derived es k (made k l)
+
+    -- what is made of all entries is a pair of some tree
+    pub next-tree : (e : Entry) → Made (systemOf w g) (In (byNumber g)) es (length es) e
+        → OfTree g (NumberHolds w) (InTable g) (e .symbol, e .graph)
+    next-tree e m =
+        let p = e .production in
+        let c = kidsOf g p (e .kids) in (
+          shown (told g es) p c,
+          subst (λ (s : ℕ). Shows g (NumberHolds w) (InTable g) s (e .graph) (shown (told g es) p c)) (made-left es (length es) e m)
+              (shown-graph g (NumberHolds w) (InTable g) (told g es) (length es) all-derived p c (in-table g p (m .kids .part))
+              (made-fits es (length es) e m) (e .graph) (made-graph es (length es) e m)),
+        )
+
+    -- the tree that a circular root shows
+    module _ (p : ℕ) (slots : List ℕ) (root : Root (systemOf w g) (In (byNumber g)) es p slots) where
+      root-fits : record-of-trees.Fits (told g es) (length es) (kidsOf g p slots) (rights (production g p))
+      unfolding systemOf
+      root-fits = fits-told g es (length es) (kidsOf g p slots) (rights (production g p)) (root .kids .fits)
+
+      pub root-complete : Complete g (InTable g) (shown (told g es) p (kidsOf g p slots))
+      root-complete =
+          shown-complete g (NumberHolds w) (InTable g) (told g es) (length es) all-derived p (kidsOf g p slots)
+          (in-table g p (root .kids .part)) root-fits
+
+      pub root-circle : Circle (TreeEdge g (shown (told g es) p (kidsOf g p slots)))
+      unfolding systemOf
+      root-circle =
+          shown-circle g (NumberHolds w) (InTable g) (told g es) (length es) all-derived p (kidsOf g p slots)
+          (in-table g p (root .kids .part)) root-fits
+          (circle-so w g valid few p (graphs es (kidsOf g p slots)) (counted es (length es) p (kidsOf g p slots) (root .kids .fits)) .0
+          (root .round))
+
+  -- a store to which nothing is left to add
+  pub saturated : (es : List Entry) → Saturated (systemOf w g) (In (byNumber g)) es
+      → record-of-trees.Saturated g (NumberHolds w) (InTable g) (told g es) (length es)
+  unfolding systemOf
+  saturated es s = record {
+    no-circle = λ p part c f h.
+        let k = told-fits g es (length es) c (rights (production g p)) f in
+        true≢false
+        (sym (circle-so w g valid few p (graphs es c) (counted es (length es) p c k) .1 h) ∙ s p (by-number g p part) c k .0);
+    stored = λ p part c f.
+        let k = told-fits g es (length es) c (rights (production g p)) f in
+        let h = s p (by-number g p part) c k .1 in
+        record {
+          number = h .number;
+          among = h .among;
+          symbol = h .symbol;
+          graph =
+              subst (Makes g (NumberHolds w) p (graphs es c)) (sym (h .graph))
+              (graph-so w g valid few p (graphs es c) (counted es (length es) p c k));
+        };
+  }

@@ -1,0 +1,121 @@
+-- What a user must be able to say, each demand a statement: from the bytes of a table, a closure limit and a room to trees and evaluators.
+-- Assumes nothing.
+use mathlib.Core.Bool.{true, false}
+use mathlib.Core.List.{List, List·Memᴰ}
+use mathlib.Core.Logic.{_↔_}
+use mathlib.Core.Path.{_≡_}
+use Prim.Native.Nat.{ℕ, _^_, _≤_, _<_}
+use lib.ListN.{length, take}
+use Rattle.numbers.specs.Paths.{Circle}
+use Rattle.grammar.specs.Grammar.{Grammar, production, rights}
+use Rattle.grammar.specs.Table.{grammarOf}
+use Rattle.grammar.specs.Rules.{Breaks}
+use Rattle.trees.specs.Lists.{Distinct}
+use Rattle.trees.specs.Tree.{Tree, Instance, Complete, InTable, TreeEdge, instances}
+use Rattle.trees.specs.Compound.{NumberHolds}
+use Rattle.trees.specs.Evaluator.{State, left, given, MayTake, StandsStill, Reached, Evaluator}
+use Rattle.trees.specs.Record as record-of-trees
+use Rattle.trees.specs.Record.{shown, pairs, OfTree}
+use Rattle.passes.specs.declared.Answer.{Answer}
+use Rattle.passes.specs.declared.Answer.the-variants.{Noncircular, Circular, Refused, OutOfSteps, OutOfRoom}
+use Rattle.passes.specs.declared.Entry.{Entry}
+use Rattle.passes.specs.Passes.{Outcome, outcome, entry, noRoot, empty}
+use Rattle.passes.specs.Test.{test}
+
+-- ---- words
+
+-- what comes back for eight attributes
+abbrev pub back : List ℕ → ℕ → ℕ → Outcome
+back bs limit room = test 8 bs limit room
+
+abbrev pub answer : List ℕ → ℕ → ℕ → Answer
+answer bs limit room = back bs limit room .report .answer
+
+-- a finite complete tree of the table's grammar, rooted at any symbol
+abbrev pub TreeOf : List ℕ → Tree → Type 0
+TreeOf bs = Complete (grammarOf bs) (InTable (grammarOf bs))
+
+abbrev pub HasCircle : List ℕ → Tree → Type 0
+HasCircle bs t = Circle (TreeEdge (grammarOf bs) t)
+
+-- of seven slots, those that count: one for each right symbol
+abbrev pub kidsOf : Grammar → ℕ → List ℕ → List ℕ
+kidsOf g p slots = take (length (rights (production g p))) slots
+
+abbrev pub told : Grammar → List Entry → ℕ → record-of-trees.Entry ℕ
+told g es k =
+    record {
+      symbol = entry es k .symbol;
+      graph = entry es k .graph;
+      production = entry es k .production;
+      kids = kidsOf g (entry es k .production) (entry es k .kids);
+    }
+
+-- the shown tree of a circular answer: the root's production, and below it the trees of its entry numbers
+abbrev pub shownTree : List ℕ → Outcome → ℕ → Tree
+shownTree bs o p = shown (told (grammarOf bs) (o .entries)) p (kidsOf (grammarOf bs) p (o .report .root))
+
+-- a symbol and the number of a graph, of some tree
+pub record TreePair (bs : List ℕ) (q : ℕ × ℕ) : Type 0 where
+  pub number : q .1 < 2 ^ 64
+  pub of-tree : OfTree (grammarOf bs) (NumberHolds 8) (InTable (grammarOf bs)) q
+
+-- ---- demand 1: a bad table is refused by number, and no other; then nothing is counted or stored
+pub record RefusedExactly (bs : List ℕ) (limit room k : ℕ) : Type 0 where
+  pub exactly : (answer bs limit room ≡ Refused k) ↔ Breaks 8 bs k
+  pub nothing : Breaks 8 bs k → back bs limit room ≡ outcome (Refused k) noRoot empty 0
+
+-- ---- demand 2: the verdict
+pub record CircularShown (bs : List ℕ) (limit room p : ℕ) : Type 0 where
+  pub complete : TreeOf bs (shownTree bs (back bs limit room) p)
+  pub circle : HasCircle bs (shownTree bs (back bs limit room) p)
+
+abbrev pub NoncircularNone : List ℕ → Type 0
+NoncircularNone bs = (t : Tree) → TreeOf bs t → ¬ HasCircle bs t
+
+-- out of steps at the limit L comes exactly if with a greater limit M the same passes make more than L closures; else M changes nothing
+pub record StepsExactly (bs : List ℕ) (L M room : ℕ) : Type 0 where
+  pub exactly : (answer bs L room ≡ OutOfSteps) ↔ (L < back bs M room .report .closures)
+  pub else : ¬ (answer bs L room ≡ OutOfSteps) → back bs M room ≡ back bs L room
+
+-- out of room at R comes exactly if with more room S, and no more closures than were made (or some number l between them and the limit), more than R entries are stored; else
+-- more room changes nothing
+pub record RoomExactly (bs : List ℕ) (limit l R S : ℕ) : Type 0 where
+  pub exactly : (answer bs limit R ≡ OutOfRoom) ↔ (R < length (back bs l S .entries))
+  pub else : ¬ (answer bs limit R ≡ OutOfRoom) → back bs limit S ≡ back bs limit R
+
+-- more than R different pairs of root symbol and graph
+abbrev pub MorePairs : List ℕ → ℕ → Type 0
+MorePairs bs R = (l : List (ℕ × ℕ)) × Distinct l × (R < length l) × ((q : ℕ × ℕ) → List·Memᴰ q l → TreePair bs q)
+
+-- where no tree has a circle and the run does not end out of steps: out of room exactly if the trees have more than R different pairs of
+-- root symbol and graph; else the entries are those pairs, each once
+pub record RoomCounts (bs : List ℕ) (limit R : ℕ) : Type 0 where
+  pub exactly : (answer bs limit R ≡ OutOfRoom) ↔ MorePairs bs R
+  pub once : Distinct (pairs (told (grammarOf bs) (back bs limit R .entries)) (length (back bs limit R .entries)))
+  pub those :
+      ¬ (answer bs limit R ≡ OutOfRoom)
+      → (q : ℕ × ℕ)
+      → List·Memᴰ q (pairs (told (grammarOf bs) (back bs limit R .entries)) (length (back bs limit R .entries))) ↔ TreePair bs q
+
+-- ---- demand 3: evaluators, on a tree t
+
+-- in whatever state it is, a value that is left over has company: some value may be taken; so who stands still has computed all
+pub record NeverStill (bs : List ℕ) (t : Tree) : Type 0 where
+  pub goes-on :
+      (c : State Instance) (y : Instance) → List·Memᴰ y (instances (grammarOf bs) t) → c y ≡ false
+      → (z : Instance) × MayTake (grammarOf bs) t c z
+  pub all-computed :
+      {n : ℕ} {d : State Instance} → Reached (grammarOf bs) t n d → StandsStill (grammarOf bs) t d
+      → (y : Instance) → List·Memᴰ y (instances (grammarOf bs) t) → d y ≡ true
+  -- and it takes as many values as were not given
+  pub ends : {n : ℕ} {d : State Instance} → Reached (grammarOf bs) t n d → n ≤ left (given (grammarOf bs) t) (instances (grammarOf bs) t)
+
+-- whatever an evaluator has reached, a value is left over, and it comes to stand still
+pub record StandsStillLeft (bs : List ℕ) (t : Tree) : Type 0 where
+  pub left-over :
+      {n : ℕ} {d : State Instance} → Reached (grammarOf bs) t n d
+      → (y : Instance) × List·Memᴰ y (instances (grammarOf bs) t) × (d y ≡ false)
+  pub stands :
+      Evaluator (grammarOf bs) t → (n : ℕ) × (d : State Instance) × Reached (grammarOf bs) t n d × StandsStill (grammarOf bs) t d
+  pub ends : {n : ℕ} {d : State Instance} → Reached (grammarOf bs) t n d → n ≤ length (instances (grammarOf bs) t)

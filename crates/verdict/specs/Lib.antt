@@ -1,0 +1,2 @@
+-- The demands, as statements about the rules that the program is proved to follow.
+pub mod Demands
