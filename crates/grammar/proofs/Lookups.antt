@@ -67,3 +67,15 @@ module _ (bs : List ℕ) where
       ∷ []
   unfolding productionIn upFrom
   slots-are i = simp (add-zero, add-assoc)
+
+pub slots-by :
+    {a b c d e f g a′ b′ c′ d′ e′ f′ g′ : ℕ}
+    → a ≡ a′
+    → b ≡ b′
+    → c ≡ c′
+    → d ≡ d′
+    → e ≡ e′
+    → f ≡ f′
+    → g ≡ g′
+    → _≡_ {A = List ℕ} (a ∷ b ∷ c ∷ d ∷ e ∷ f ∷ g ∷ []) (a′ ∷ b′ ∷ c′ ∷ d′ ∷ e′ ∷ f′ ∷ g′ ∷ [])
+slots-by p q r s t u v i = p i ∷ q i ∷ r i ∷ s i ∷ t i ∷ u i ∷ v i ∷ []

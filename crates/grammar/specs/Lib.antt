@@ -4,3 +4,5 @@ pub mod Table
 pub mod Rules
 pub mod Refusal
 pub mod Reading
+pub mod Steps
+pub mod Valid

@@ -1,6 +1,11 @@
--- Laws that several crates cite: bytes past the end, runs of numbers, parts of a list, bits, paths.
+-- Laws that several crates cite: bytes past the end, runs of numbers, parts of a list, tests over a list, orders, bits, paths.
 pub mod Bytes
 pub mod Ranges
 pub mod Parts
+pub mod Every
+pub mod Decides
+pub mod Keeping
+pub mod Ordered
 pub mod Bits
 pub mod Ways
+pub mod OneReading

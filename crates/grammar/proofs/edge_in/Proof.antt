@@ -21,7 +21,8 @@ two-at-requires c κs = search needs
 
 returns : tie.Need-returns
 unfolding edgeIn
-returns c = cc
+returns c =
+    λ i. record { production = c .two-at .ensures i; source = c .before .before .node-in .ensures i; target = c .before .node-in2 .ensures i }
 
 pub edge-in-spec : {M : Type 1} → statement M
 edge-in-spec =

@@ -16,7 +16,14 @@ two-at-requires-4 : tie.Need-two-at-requires-4
 two-at-requires-4 c κs = search needs
 
 returns : tie.Need-returns
-returns c = cc
+returns c =
+    λ i.
+    record {
+      symbols = c .before .before .before .two-at .ensures i;
+      productions = c .before .before .two-at2 .ensures i;
+      edges = c .before .two-at3 .ensures i;
+      start = c .two-at4 .ensures i;
+    }
 
 pub header-of-spec : {M : Type 1} → statement M
 header-of-spec =

@@ -13,7 +13,7 @@ byte-at-requires-2 : tie.Need-byte-at-requires-2
 byte-at-requires-2 c κs = search needs
 
 returns : tie.Need-returns
-returns c = cc
+returns c = λ i. record { occurrence = c .before .byte-at .ensures i; attribute = c .byte-at2 .ensures i }
 
 pub node-in-spec : {M : Type 1} → statement M
 node-in-spec = tie.close (tie.spec byte-at-requires add-byte-at byte-at-requires-2 returns)

@@ -1,7 +1,8 @@
 -- `grammar::production_in` meets its contract. Assumes nothing.
+use mathlib.Core.Path.{sym, _∙_}
 use Rattle.grammar.specs.Table.{productionIn}
 use borrow.Author.Needs.{needs}
-use Rattle.grammar.proofs.Lookups.{slots-are}
+use Rattle.grammar.proofs.Lookups.{slots-are, slots-by}
 use Rattle.grammar.proofs.production_in.Statement.{statement}
 use Rattle.grammar.proofs.production_in.Tie as tie
 
@@ -58,7 +59,14 @@ two-at-requires-9 c κs = search needs
 
 returns : tie.Need-returns
 unfolding productionIn
-returns c = cc (slots-are (c .before .before .before .before .before .before .before .before .before .before .args .table .now) (c .before .before .before .before .before .before .before .before .before .before .args .at))
+returns c =
+    let a = c .before .before .before .before .before .before .before .before .before .before .args in
+    λ i.
+    record {
+      left = c .before .two-at8 .ensures i;
+      n = c .two-at9 .ensures i;
+      slots = (slots-by (c .before .before .before .before .before .before .before .before .two-at .ensures) (c .before .before .before .before .before .before .before .two-at2 .ensures) (c .before .before .before .before .before .before .two-at3 .ensures) (c .before .before .before .before .before .two-at4 .ensures) (c .before .before .before .before .two-at5 .ensures) (c .before .before .before .two-at6 .ensures) (c .before .before .two-at7 .ensures) ∙ sym (slots-are (a .table .now) (a .at))) i;
+    }
 
 pub production-in-spec : {M : Type 1} → statement M
 production-in-spec =

@@ -1,5 +1,7 @@
 -- `grammar::production_of` meets its contract. Assumes nothing.
-use mathlib.Core.Path.{sym, ap}
+use Rattle.grammar.specs.Table.{productionIn}
+use Prim.Native.Nat.{_+_, _*_}
+use mathlib.Core.Path.{sym, ap, _∙_}
 use native.Mathlib.Omega.{arith}
 use Rattle.grammar.proofs.Lookups.{production-there, production-none}
 use borrow.Author.Needs.{needs}
@@ -31,10 +33,13 @@ production-in-requires c κs = search needs
 
 returns-2 : tie.Need-returns-2
 returns-2 c =
+    let a = c .before .before .before .before .before .before .args in
     let h = c .before .before .before .before .header-of .ensures in
-    let e = ap (λ h. h .productions) h in
-    let s = ap (λ h. h .symbols) h in
-    cc (production-there (c .before .before .before .before .before .before .args .table .now) (c .before .before .before .before .before .before .args .p) (omega arith))
+    let many = ap (λ h. h .productions) h in
+    let at = c .before .at-productions .ensures ∙ ap (λ h. 24 + 2 * h .symbols) h in
+    c .production-in .ensures
+    ∙ ap (λ at. productionIn (a .table .now) (at + 18 * a .p)) at
+    ∙ sym (production-there (a .table .now) (a .p) (omega arith))
 
 pub production-of-spec : {M : Type 1} → statement M
 production-of-spec =

@@ -4,7 +4,7 @@ use Rattle.grammar.specs.Table.{atEdges}
 use lib.ListN.{length}
 use Prim.Native.Nat.{_+_, _*_, min}
 use native.Mathlib.Omega.{arith}
-use mathlib.Core.Path.{_≡_, sym, ap}
+use mathlib.Core.Path.{_≡_, sym, ap, _∙_}
 use borrow.Author.Needs.{needs}
 use Rattle.grammar.proofs.run_of.Statement.{statement}
 use Rattle.grammar.proofs.run_of.Tie as tie
@@ -70,11 +70,12 @@ returns-2 c =
     let bs = c .before .before .before .before .before .before .before .before .before .before .before .args .table .now in
     let h = c .before .before .before .before .before .before .before .before .before .header-of .ensures in
     let many = ap (λ h. h .productions) h in
-    let symbols = ap (λ h. h .symbols) h in
+    let at = c .before .before .before .before .at-edges .ensures ∙ ap (λ h. 24 + 2 * h .symbols + 18 * h .productions) h in
+    let at2 = c .before .before .at-edges2 .ensures ∙ ap (λ h. 24 + 2 * h .symbols + 18 * h .productions) h in
     let first = c .before .before .before .before .before .before .seek-from .result in
     let end = c .before .before .before .before .before .seek-from2 .result in
-    let a : c .before .before .before .within .result ≡ min (atEdges bs + 6 * first) (length bs) = cc in
-    let e : c .before .within2 .result ≡ min (atEdges bs + 6 * end) (length bs) = cc in
+    let a = c .before .before .before .within .ensures ∙ ap (λ at. min (at + 6 * first) (length bs)) at in
+    let e = c .before .within2 .ensures ∙ ap (λ at. min (at + 6 * end) (length bs)) at2 in
     rw (a, e)
     (run-found bs (c .before .before .before .before .before .before .before .before .before .before .before .args .p) first end (omega arith) (c .before .before .before .before .before .before .seek-from .ensures .0) (c .before .before .before .before .before .seek-from2 .ensures .0) (c .before .before .before .before .before .seek-from2 .ensures .1))
 

@@ -1,9 +1,10 @@
 -- `grammar::step_further` meets its contract. Assumes nothing.
+use Rattle.numbers.specs.Number.{le2}
 use Rattle.grammar.specs.Reading.{producing}
 use Rattle.grammar.proofs.Seeking.{further-few, further-on, further-not}
-use Prim.Native.Nat.{_+_, _-_}
+use Prim.Native.Nat.{_+_, _-_, _*_}
 use native.Mathlib.Omega.{arith}
-use mathlib.Core.Path.{_≡_, sym, ap}
+use mathlib.Core.Path.{_≡_, sym, ap, _∙_}
 use borrow.Author.Needs.{needs}
 use Rattle.grammar.proofs.step_further.Statement.{statement}
 use Rattle.grammar.proofs.step_further.Tie as tie
@@ -43,9 +44,8 @@ returns-2 c =
     let a = c .before .before .before .before .before .before .before .args in
     let h = c .before .before .before .before .before .before .before .pre .0 in
     let e = ap (λ h. h .edges) h in
-    let at = ap (λ h. h .symbols) h in
-    let more = ap (λ h. h .productions) h in
-    let last : c .before .before .two-at .result ≡ producing (a .table .now) (a .at + a .step - 1) = cc in
+    let at = c .before .before .before .at-edges .ensures ∙ ap (λ h. 24 + 2 * h .symbols + 18 * h .productions) h in
+    let last : c .before .before .two-at .result ≡ producing (a .table .now) (a .at + a .step - 1) = c .before .before .two-at .ensures ∙ ap (λ at. le2 (a .table .now) (at + 6 * (a .at + a .step - 1))) at in
     sym (further-on (a .table .now) (a .p) (a .step) (a .at) (omega arith) (omega arith))
 
 returns-3 : tie.Need-returns-3
@@ -53,9 +53,8 @@ returns-3 c =
     let a = c .before .before .before .before .before .before .before .args in
     let h = c .before .before .before .before .before .before .before .pre .0 in
     let e = ap (λ h. h .edges) h in
-    let at = ap (λ h. h .symbols) h in
-    let more = ap (λ h. h .productions) h in
-    let last : c .before .before .two-at .result ≡ producing (a .table .now) (a .at + a .step - 1) = cc in
+    let at = c .before .before .before .at-edges .ensures ∙ ap (λ h. 24 + 2 * h .symbols + 18 * h .productions) h in
+    let last : c .before .before .two-at .result ≡ producing (a .table .now) (a .at + a .step - 1) = c .before .before .two-at .ensures ∙ ap (λ at. le2 (a .table .now) (at + 6 * (a .at + a .step - 1))) at in
     sym (further-not (a .table .now) (a .p) (a .step) (a .at) (omega arith) (omega arith))
 
 pub step-further-spec : {M : Type 1} → statement M

@@ -1,5 +1,6 @@
 -- `grammar::symbol_of` meets its contract. Assumes nothing.
-use mathlib.Core.Path.{sym}
+use Prim.Native.Nat.{_+_, _*_}
+use mathlib.Core.Path.{sym, _≡_, _∙_}
 use native.Mathlib.Omega.{arith}
 use Rattle.grammar.proofs.Lookups.{symbol-there, symbol-none}
 use Rattle.grammar.specs.Table.{symbolIn}
@@ -36,7 +37,10 @@ cast-t5 c = search needs
 
 returns-2 : tie.Need-returns-2
 unfolding symbolIn
-returns-2 c = cc (symbol-there (c .before .before .before .before .before .before .args .table .now) (c .before .before .before .before .before .before .args .s) (omega arith))
+returns-2 c =
+    let a = c .before .before .before .before .before .before .args in
+    let r : record { count = c .before .byte-at .result; mask = c .byte-at2 .result } ≡ symbolIn (a .table .now) (24 + 2 * a .s) = λ i. record { count = c .before .byte-at .ensures i; mask = c .byte-at2 .ensures i } in
+    r ∙ sym (symbol-there (a .table .now) (a .s) (omega arith))
 
 pub symbol-of-spec : {M : Type 1} → statement M
 symbol-of-spec =

@@ -1,0 +1,109 @@
+-- Each test of the check decides its rule. Assumes nothing.
+use mathlib.Core.Path.{_≡_, refl}
+use mathlib.Core.Bool.{true}
+use mathlib.Core.List.{List}
+use Prim.Native.Nat.{ℕ, zero, suc, _≤_, _^_}
+use lib.Dec.{eqb, ltb}
+use lib.ListN.{length, drop}
+use Rattle.numbers.specs.Number.{bit, le4}
+use Rattle.numbers.proofs.Decides.{Decides, le-decides, lt-decides, eq-decides, both-decides, every-decides, below-decides, says}
+use Rattle.grammar.specs.declared.Symbol.{Symbol}
+use Rattle.grammar.specs.declared.Production.{Production}
+use Rattle.grammar.specs.declared.Node.{Node}
+use Rattle.grammar.specs.declared.Edge.{Edge}
+use Rattle.grammar.specs.Grammar.{Grammar, symbol, production, rights, symbolAt}
+use Rattle.grammar.specs.Table.{N, P, E, startOf, atSymbols, atProductions, atEdges, total, grammarOf}
+use Rattle.grammar.specs.Rules.{CountsInRange, OffsetsRight, GoodSymbol, GoodProduction, NodeThere, Allowed, GoodEdge, GoodSymbols, GoodProductions, AboveBefore, edge, key}
+use Rattle.numbers.specs.Lists.{every}
+use Rattle.grammar.specs.Refusal.{countsOk, offsetsOk, symbolOk, productionOk, nodeOk, allowed, edgeOk}
+use Rattle.grammar.specs.Steps.{inOrder}
+
+module _ (bs : List ℕ) where
+  pub counts-decide : Decides (countsOk bs) (CountsInRange bs)
+  unfolding countsOk
+  counts-decide =
+      says
+      (λ h. record { some-symbol = h .0; symbols = h .1 .0; productions = h .1 .1 .0; edges = h .1 .1 .1 .0; start = h .1 .1 .1 .1 })
+      (λ r. (r .some-symbol, (r .symbols, (r .productions, (r .edges, r .start)))))
+      (both-decides
+      (le-decides 1 (N bs))
+      (both-decides
+      (le-decides (N bs) 256)
+      (both-decides
+      (le-decides (P bs) 512)
+      (both-decides (le-decides (E bs) 8192) (lt-decides (startOf bs) (N bs))))))
+
+  pub offsets-decide : Decides (offsetsOk bs) (OffsetsRight bs)
+  unfolding offsetsOk
+  offsets-decide =
+      says
+      (λ h. record { symbols = h .0; productions = h .1 .0; edges = h .1 .1 .0; whole = h .1 .1 .1 .0; given = h .1 .1 .1 .1 })
+      (λ r. (r .symbols, (r .productions, (r .edges, (r .whole, r .given)))))
+      (both-decides
+      (eq-decides (le4 bs 8) atSymbols)
+      (both-decides
+      (eq-decides (le4 bs 12) (atProductions bs))
+      (both-decides
+      (eq-decides (le4 bs 16) (atEdges bs))
+      (both-decides (eq-decides (le4 bs 20) (total bs)) (eq-decides (total bs) (length bs))))))
+
+pub symbol-decides : (w : ℕ) (s : Symbol) → Decides (symbolOk w s) (GoodSymbol w s)
+unfolding symbolOk
+symbol-decides w s =
+    says
+    (λ h. record { count = h .0; mask = h .1 })
+    (λ r. (r .count, r .mask))
+    (both-decides (le-decides (s .count) w) (lt-decides (s .mask) (2 ^ s .count)))
+
+pub production-decides : (n : ℕ) (p : Production) → Decides (productionOk n p) (GoodProduction n p)
+unfolding productionOk
+production-decides n p =
+    says
+    (λ h. record { left = h .0; few = h .1 .0; right = h .1 .1 .0; spare = h .1 .1 .1 })
+    (λ r. (r .left, (r .few, (r .right, r .spare))))
+    (both-decides
+    (lt-decides (p .left) n)
+    (both-decides
+    (le-decides (p .n) 7)
+    (both-decides
+    (every-decides (λ s. ltb s n) _ (λ s. lt-decides s n) (rights p))
+    (every-decides (λ s. eqb s 0) _ (λ s. eq-decides s 0) (drop (p .n) (p .slots))))))
+
+pub node-decides : (g : Grammar) (p : Production) (x : Node) → Decides (nodeOk g p x) (NodeThere g p x)
+unfolding nodeOk
+node-decides g p x =
+    says
+    (λ h. record { occurrence = h .0; attribute = h .1 })
+    (λ r. (r .occurrence, r .attribute))
+    (both-decides
+    (le-decides (x .occurrence) (p .n))
+    (lt-decides (x .attribute) (symbol g (symbolAt p (x .occurrence)) .count)))
+
+pub target-decides : (o i : ℕ) → Decides (allowed o i) (Allowed o i)
+unfolding allowed
+target-decides zero i = eq-decides i 0
+target-decides (suc o) i = eq-decides i 1
+
+pub edge-decides : (g : Grammar) (e : Edge) → Decides (edgeOk g (production g (e .production)) e) (GoodEdge g e)
+unfolding edgeOk
+edge-decides g e =
+    let p = production g (e .production) in
+    says
+    (λ h. record { production-there = h .0; source = h .1 .0; target = h .1 .1 .0; allowed = h .1 .1 .1 })
+    (λ r. (r .production-there, (r .source, (r .target, r .allowed))))
+    (both-decides
+    (lt-decides (e .production) (length (g .productions)))
+    (both-decides
+    (node-decides g p (e .source))
+    (both-decides
+    (node-decides g p (e .target))
+    (target-decides
+    (e .target .occurrence)
+    (bit (e .target .attribute) (symbol g (symbolAt p (e .target .occurrence)) .mask))))))
+
+module _ (w : ℕ) (bs : List ℕ) where
+  pub symbols-decide : Decides (every (symbolOk w) (grammarOf bs .symbols)) (GoodSymbols w bs)
+  symbols-decide = every-decides (symbolOk w) (GoodSymbol w) (symbol-decides w) (grammarOf bs .symbols)
+
+  pub productions-decide : Decides (every (productionOk (N bs)) (grammarOf bs .productions)) (GoodProductions bs)
+  productions-decide = every-decides (productionOk (N bs)) (GoodProduction (N bs)) (production-decides (N bs)) (grammarOf bs .productions)

@@ -1,0 +1,92 @@
+-- A table that is not refused obeys every rule, and its runs are unbroken. Assumes nothing.
+use mathlib.Core.Path.{_≡_, refl, sym, ap, subst, _∙_}
+use mathlib.Core.List.{List, List·Memᴰ}
+use mathlib.Core.Logic.{⊎-elim}
+use Prim.Native.Nat.{ℕ, zero, suc, _+_, _*_, _≤_, _<_}
+use native.Mathlib.Nat.{lt-irrefl, not-suc-le-zero, le-of-suc-le-suc, eq-or-lt-of-le}
+use native.Mathlib.Omega.{arith}
+use lib.Dec.{lit<}
+use lib.ListN.{length}
+use Rattle.numbers.specs.Lists.{Below}
+use Rattle.numbers.proofs.Ordered.{below-trans, below-first, stands-at}
+use Rattle.grammar.specs.declared.Edge.{Edge}
+use Rattle.grammar.specs.Grammar.{Grammar}
+use Rattle.grammar.specs.Table.{P, E, atEdges, edgeIn, grammarOf}
+use Rattle.grammar.specs.Rules.{GoodEdge, GoodEdges, BeforeEdges, Breaks, header-short, counts, offsets, symbol-bad, production-bad, edge-bad, edge-order, edge, key, noEdge}
+use Rattle.grammar.specs.Reading.{producing}
+use Rattle.grammar.specs.Valid.{Valid, TakenIsValid}
+use Rattle.grammar.proofs.Lookups.{edge-there, edges-many, productions-many}
+use Rattle.grammar.proofs.Refused.{Ending, taken, refused, ending}
+use Rattle.grammar.proofs.Runs.{run-is-all}
+
+module _ (w : ℕ) (bs : List ℕ) where
+  some-number : {k : ℕ} → Breaks w bs k → 0 < k
+  some-number (header-short n) = lit< tt
+  some-number (counts h n) = lit< tt
+  some-number (offsets h c n) = lit< tt
+  some-number (symbol-bad h c o n) = lit< tt
+  some-number (production-bad h c o s n) = lit< tt
+  some-number (edge-bad b i h all bad) = lit< tt
+  some-number (edge-order b i h all good low) = lit< tt
+
+  not-refused : Ending w bs 0 → BeforeEdges w bs × GoodEdges (grammarOf bs) (E bs)
+  not-refused (taken b all) = (b, all)
+  not-refused (refused b) = absurd (lt-irrefl 0 (some-number b))
+
+  module _ (before : BeforeEdges w bs) (all : GoodEdges (grammarOf bs) (E bs)) where
+    good : (e : Edge) → List·Memᴰ e (grammarOf bs .edges) → GoodEdge (grammarOf bs) e
+    good e m =
+        let r = stands-at noEdge e (grammarOf bs .edges) m in
+        subst (GoodEdge (grammarOf bs)) (sym (r .2)) (all (r .0) (omega (arith, r .1, edges-many bs)) .0)
+
+    ascending : (i j : ℕ) → i < j → j < E bs → Below (key (edge (grammarOf bs) i)) (key (edge (grammarOf bs) j))
+    ascending i zero h u = absurd (not-suc-le-zero h)
+    ascending i (suc j) h u =
+        ⊎-elim
+        (λ e. subst (λ i. Below (key (edge (grammarOf bs) i)) (key (edge (grammarOf bs) (suc j)))) (sym e) (all (suc j) u .1))
+        (λ l.
+        below-trans
+        (key (edge (grammarOf bs) i))
+        (key (edge (grammarOf bs) j))
+        (key (edge (grammarOf bs) (suc j)))
+        (ascending i j l (omega arith))
+        (all (suc j) u .1))
+        (eq-or-lt-of-le (le-of-suc-le-suc h))
+
+    produced : (i : ℕ) → i < E bs → edge (grammarOf bs) i .production ≡ producing bs i
+    unfolding edgeIn
+    produced i h = ap (λ e. e .production) (edge-there bs i h)
+
+    sorted : (i j : ℕ) → i ≤ j → j < E bs → producing bs i ≤ producing bs j
+    sorted i j l u =
+        ⊎-elim
+        (λ e. subst (λ k. producing bs i ≤ producing bs k) e (omega arith))
+        (λ h.
+        omega
+        (arith, below-first (key (edge (grammarOf bs) i)) (key (edge (grammarOf bs) j)) (ascending i j h u), produced i (omega arith), produced j u))
+        (eq-or-lt-of-le l)
+
+    is-valid : Valid w bs
+    is-valid =
+        record {
+          header = before .0;
+          counts = before .1;
+          offsets = before .2;
+          symbols = before .3;
+          productions = before .4;
+          edges = good;
+          ordered = all;
+          ascending = ascending;
+          runs =
+              run-is-all
+              bs
+              sorted
+              (omega (arith, before .1 .edges))
+              (before .2 .given)
+              (λ i h. omega (arith, all i h .0 .production-there, produced i h, productions-many bs));
+        }
+
+pub valid : TakenIsValid
+valid w bs e =
+    let r = not-refused w bs (subst (Ending w bs) e (ending w bs)) in
+    is-valid w bs (r .0) (r .1)
