@@ -13,6 +13,7 @@ use Rattle.grammar.specs.Grammar.{Grammar}
 use Rattle.grammar.specs.Table.{grammarOf}
 use Rattle.grammar.specs.Rules.{Breaks}
 use Rattle.grammar.specs.Refusal.{refusal}
+use Rattle.grammar.proofs.Refused as rules-shown
 use Rattle.trees.specs.Lists.{Distinct}
 use Rattle.trees.specs.Tree.{Tree, Instance, InTable, TreeEdge, instances, Valid, AtMost}
 use Rattle.trees.specs.Compound.{NumberHolds}
@@ -30,6 +31,7 @@ use Rattle.orders.specs.Answers as runs
 use Rattle.orders.specs.Stored.{In}
 use Rattle.orders.proofs.Answers as runs-shown
 use Rattle.verdict.specs.Demands.{back, answer, TreeOf, HasCircle, told, shownTree, TreePair, RefusedExactly, CircularShown, NoncircularNone, StepsExactly, RoomExactly, MorePairs, RoomCounts, NeverStill, StandsStillLeft}
+use Rattle.verdict.proofs.Obeys.{obeys}
 use Rattle.verdict.proofs.Trees.{root-complete, root-circle, saturated}
 use Rattle.verdict.proofs.Room.{stored-once, stored-pairs, pairs-stored, no-more, one-more}
 
@@ -61,9 +63,7 @@ some-rule w bs k (Breaks.production-bad a b c d e) = (4, refl)
 some-rule w bs k (Breaks.edge-bad a i b c d) = (5, refl)
 some-rule w bs k (Breaks.edge-order a i b c d e) = (6, refl)
 
-module _ (bs : List ℕ)
-    (exactly : (k : ℕ) → (refusal 8 bs ≡ suc k) ↔ Breaks 8 bs (suc k))
-    (obeys : refusal 8 bs ≡ 0 → Valid (grammarOf bs) × AtMost 8 (grammarOf bs)) where
+module _ (bs : List ℕ) where
   abbrev ran : ℕ → ℕ → Outcome
   ran limit room = passes (systemOf 8 (grammarOf bs)) limit room (byNumber (grammarOf bs))
 
@@ -81,7 +81,7 @@ module _ (bs : List ℕ)
   refused : (k : ℕ) → Breaks 8 bs k → (limit room : ℕ) → back bs limit room ≡ outcome (Refused k) noRoot empty 0
   refused k b limit room =
       let j = some-rule 8 bs k b in
-      turned-away (j .0) (exactly (j .0) .1 (subst (Breaks 8 bs) (j .1) b)) limit room
+      turned-away (j .0) (rules-shown.refused-exactly 8 bs (j .0) .1 (subst (Breaks 8 bs) (j .1) b)) limit room
       ∙ ap (λ (a : Answer). outcome a noRoot empty 0) (ap numbered (sym (j .1)) ∙ broken 8 bs k b)
 
   either : (refusal 8 bs ≡ 0) ⊎ ((k : ℕ) × Breaks 8 bs k)
@@ -89,7 +89,7 @@ module _ (bs : List ℕ)
     where
       go : (n : ℕ) → refusal 8 bs ≡ n → (refusal 8 bs ≡ 0) ⊎ ((k : ℕ) × Breaks 8 bs k)
       go zero e = inl e
-      go (suc k) e = inr (suc k, exactly k .0 e)
+      go (suc k) e = inr (suc k, rules-shown.refused-exactly 8 bs k .0 e)
 
   -- an answer other than a refusal is that of the passes
   not-refused : (limit room : ℕ) (a : Answer) → answer bs limit room ≡ a → ¬ (case a ≡ 2) → refusal 8 bs ≡ 0
@@ -121,15 +121,6 @@ module _ (bs : List ℕ)
 
   -- ---- demand 2
   module _ (good : refusal 8 bs ≡ 0) where
-    abbrev g : Grammar
-    g = grammarOf bs
-
-    abbrev valid : Valid (grammarOf bs)
-    valid = obeys good .0
-
-    abbrev few : AtMost 8 (grammarOf bs)
-    few = obeys good .1
-
     sound : (limit room : ℕ) → runs.Sound (systemOf 8 (grammarOf bs)) (In (byNumber (grammarOf bs))) limit room (back bs limit room)
     sound limit room =
         subst (runs.Sound (systemOf 8 (grammarOf bs)) (In (byNumber (grammarOf bs))) limit room) (sym (taken good limit room))
@@ -142,10 +133,10 @@ module _ (bs : List ℕ)
       let root = subst (runs.Says (systemOf 8 (grammarOf bs)) (In (byNumber (grammarOf bs))) limit room (back bs limit room)) h (s .says) in
       record {
         complete =
-            root-complete 8 (grammarOf bs) (obeys good .0) (obeys good .1) (back bs limit room .entries) (s .made) p
+            root-complete 8 (grammarOf bs) (obeys 8 bs good .0) (obeys 8 bs good .1) (back bs limit room .entries) (s .made) p
             (back bs limit room .report .root) root;
         circle =
-            root-circle 8 (grammarOf bs) (obeys good .0) (obeys good .1) (back bs limit room .entries) (s .made) p
+            root-circle 8 (grammarOf bs) (obeys 8 bs good .0) (obeys 8 bs good .1) (back bs limit room .entries) (s .made) p
             (back bs limit room .report .root) root;
       }
 
@@ -156,7 +147,7 @@ module _ (bs : List ℕ)
   full limit room h =
       let good = not-refused limit room Noncircular h (λ e. omega arith) in
       let s = sound good limit room in
-      saturated 8 (grammarOf bs) (obeys good .0) (obeys good .1) (back bs limit room .entries)
+      saturated 8 (grammarOf bs) (obeys 8 bs good .0) (obeys 8 bs good .1) (back bs limit room .entries)
       (subst (runs.Says (systemOf 8 (grammarOf bs)) (In (byNumber (grammarOf bs))) limit room (back bs limit room)) h (s .says) .0)
 
   pub noncircular-none : (limit room : ℕ) → answer bs limit room ≡ Noncircular → NoncircularNone bs
@@ -220,8 +211,8 @@ module _ (bs : List ℕ)
           let s = sound good limit R in
           let g = grammarOf bs in
           let es = back bs limit R .entries in
-          let full = saturated 8 g (obeys good .0) (obeys good .1) es (says .0) in
-          let o = obeys good in
+          let full = saturated 8 g (obeys 8 bs good .0) (obeys 8 bs good .1) es (says .0) in
+          let o = obeys 8 bs good in
           record {
             exactly = (
               λ k. absurd (let z : _≡_ {A = ℕ} 0 4 = ap case (sym h ∙ k) in omega arith),
@@ -249,7 +240,7 @@ module _ (bs : List ℕ)
           let s = sound good limit R in
           let g = grammarOf bs in
           let es = back bs limit R .entries in
-          let o = obeys good in
+          let o = obeys 8 bs good in
           let x = says .1 in
           let l = one-more 8 g (o .0) (o .1) es (s .made) (s .different) (x .extra) (x .made) (x .new) in
           record {
@@ -264,8 +255,8 @@ module _ (bs : List ℕ)
       let good = not-refused limit room Noncircular h (λ e. omega arith) in
       let none = noncircular-none limit room h t w in
       record {
-        goes-on = evaluators.never-still (grammarOf bs) (obeys good .0) (InTable (grammarOf bs)) t w none;
-        all-computed = λ {n} {d} r s. evaluators.all-computed (grammarOf bs) (obeys good .0) (InTable (grammarOf bs)) t w none r s .0;
+        goes-on = evaluators.never-still (grammarOf bs) (obeys 8 bs good .0) (InTable (grammarOf bs)) t w none;
+        all-computed = λ {n} {d} r s. evaluators.all-computed (grammarOf bs) (obeys 8 bs good .0) (InTable (grammarOf bs)) t w none r s .0;
         ends = λ {n} {d} r. omega (arith, evaluators.takings (grammarOf bs) t r);
       }
 
@@ -277,7 +268,7 @@ module _ (bs : List ℕ)
       record {
         left-over = λ {n} {d} r.
             let x = c .circle in
-            let y = evaluators.left-over (grammarOf bs) (obeys good .0) (InTable (grammarOf bs)) t (c .complete) r (x .0) (x .1) in
+            let y = evaluators.left-over (grammarOf bs) (obeys 8 bs good .0) (InTable (grammarOf bs)) t (c .complete) r (x .0) (x .1) in
             (x .0, y .0, y .1);
         stands = evaluators.stood (grammarOf bs) t;
         ends = λ {n} {d} r. evaluators.run-ends (grammarOf bs) t r;

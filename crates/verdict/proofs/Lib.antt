@@ -4,6 +4,7 @@ pub use Rattle.passes.proofs.Borders.{borders}
 pub use Rattle.passes.proofs.Growth.{fuel-suffices, grown-pass}
 pub use Rattle.passes.proofs.Nested.{tries-nested}
 pub mod Bridge
+pub mod Obeys
 pub mod Trees
 pub mod Room
 pub mod Demands

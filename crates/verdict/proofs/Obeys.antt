@@ -1,0 +1,35 @@
+-- A table that is not refused is a grammar as the trees ask for it. Assumes nothing.
+use mathlib.Core.Path.{_≡_, refl, sym, ap, _∙_, subst}
+use mathlib.Core.List.{List, map, List·Memᴰ, Memᴰ·of-map}
+use Prim.Native.Nat.{ℕ, _+_, _*_, _≤_}
+use native.Mathlib.Omega.{arith}
+use lib.ListN.{length, length-map}
+use Rattle.numbers.specs.Number.{le2}
+use Rattle.numbers.specs.Lists.{upFrom}
+use Rattle.numbers.proofs.Ranges.{length-upFrom}
+use Rattle.grammar.specs.declared.Production.{Production}
+use Rattle.grammar.specs.Table.{P, atProductions, productionIn, grammarOf}
+use Rattle.grammar.specs.Refusal.{refusal}
+use Rattle.grammar.proofs.Valid.{valid}
+use Rattle.trees.specs.Tree.{Valid, AtMost}
+
+-- a production of a table has seven slots
+seven-slots : (bs : List ℕ) (i : ℕ) → length (productionIn bs i .slots) ≡ 7
+unfolding productionIn
+seven-slots bs i = length-map (upFrom 0 7) (λ k. le2 bs (i + 4 + 2 * k)) ∙ length-upFrom 0 7
+
+slots-there : (bs : List ℕ) (p : Production) → List·Memᴰ p (grammarOf bs .productions) → length (p .slots) ≡ 7
+unfolding grammarOf
+slots-there bs p m =
+    let r = Memᴰ·of-map (λ i. productionIn bs (atProductions bs + 18 * i)) (upFrom 0 (P bs)) m in
+    ap (λ (q : Production). length (q .slots)) (sym (r .2)) ∙ seven-slots bs (atProductions bs + 18 * r .0)
+
+pub obeys : (w : ℕ) (bs : List ℕ) → refusal w bs ≡ 0 → Valid (grammarOf bs) × AtMost w (grammarOf bs)
+obeys w bs e =
+    let v = valid w bs e in (
+      record {
+        slots = λ p m. omega (arith, slots-there bs p m, v .productions p m .few);
+        edges = v .edges;
+      },
+      λ s m. v .symbols s m .count,
+    )
