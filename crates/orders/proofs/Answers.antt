@@ -7,10 +7,10 @@ use native.Mathlib.Omega.{arith}
 use lib.Dec.{eqb}
 use lib.ListN.{length, length-append}
 use borrow.Author.Tests.{eqb-false}
-use Rattle.passes.specs.declared.Answer.{Answer}
-use Rattle.passes.specs.declared.Answer.the-variants.{Noncircular, Circular, Refused, OutOfSteps, OutOfRoom}
-use Rattle.passes.specs.declared.Entry.{Entry}
-use Rattle.passes.specs.Passes.{System, State, Ran, going, stopped, noRoot, pass, Outcome, outcome, after, empty, passesFrom, passes}
+use Rattle.rules.specs.declared.Answer.{Answer}
+use Rattle.rules.specs.declared.Answer.the-variants.{Noncircular, Circular, Refused, OutOfSteps, OutOfRoom}
+use Rattle.rules.specs.declared.Entry.{Entry}
+use Rattle.rules.specs.Passes.{System, State, Ran, going, stopped, noRoot, pass, Outcome, outcome, after, empty, passesFrom, passes}
 use Rattle.orders.specs.Stored.{In, Fits, Root, Saturated}
 use Rattle.orders.specs.Answers.{Says, Sound, StepsCompared, RoomCompared, OneStored, Verdict, reached, Passed}
 use Rattle.orders.specs.Claims.{OutcomeSound, TurnsStay, FuelSuffices, StepsExactly, RoomExactly, OneMore, VerdictStands, MoreRoom, OneVerdict}

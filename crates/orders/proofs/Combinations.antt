@@ -9,8 +9,8 @@ use lib.ListN.{length, List·getD-append}
 use lib.Seq.{take-append-seam}
 use borrow.Author.Tests.{eqb-true, eq-eqb}
 use Rattle.numbers.specs.Lists.{upFrom}
-use Rattle.passes.specs.declared.Entry.{Entry}
-use Rattle.passes.specs.Passes.{System, noEntry, entry, graphs, seven, candidates, prefixed, combinations}
+use Rattle.rules.specs.declared.Entry.{Entry}
+use Rattle.rules.specs.Passes.{System, noEntry, entry, graphs, seven, candidates, prefixed, combinations}
 use Rattle.orders.specs.Stored.{Fits, Combination, counting}
 use Rattle.orders.proofs.Members.{at-cons, keep-at, keep-mem, map-mem, mem-map, upFrom-at, upFrom-mem}
 

@@ -8,8 +8,8 @@ use native.Mathlib.Omega.{arith}
 use native.Mathlib.Decide.{decLt}
 use lib.ListN.{length, length-append}
 use lib.Seq.{getD-append-seam}
-use Rattle.passes.specs.declared.Entry.{Entry}
-use Rattle.passes.specs.Passes.{System, noEntry, entry, graphs, seven}
+use Rattle.rules.specs.declared.Entry.{Entry}
+use Rattle.rules.specs.Passes.{System, noEntry, entry, graphs, seven}
 use Rattle.orders.specs.Stored.{Fits, Combination, counting, kidGraphs, Slots, Made}
 use Rattle.orders.specs.Modes.{needless, fresh, newEntry, Mode, Covered, Later, Settled, Shown, settled, added, Lawful}
 use Rattle.orders.proofs.Combinations.{entry-stays, fits-map, fits-more, graphs-stay, counting-seven}

@@ -5,9 +5,9 @@ use mathlib.Core.List.{List, [], _∷_, _++_, map}
 use Prim.Native.Nat.{ℕ, zero, suc}
 use lib.Dec.{leb, eqb}
 use lib.ListN.{length}
-use Rattle.passes.specs.declared.Answer.the-variants.{Noncircular}
-use Rattle.passes.specs.declared.Entry.{Entry}
-use Rattle.passes.specs.Passes.{System, State, Ran, going, stopped, andThen, numbered, seven, noRoot, candidates, combinations, graphs, known, six, counted, stored, try, tries, turn, pass, outcome, after, passesFrom}
+use Rattle.rules.specs.declared.Answer.the-variants.{Noncircular}
+use Rattle.rules.specs.declared.Entry.{Entry}
+use Rattle.rules.specs.Passes.{System, State, Ran, going, stopped, andThen, numbered, seven, noRoot, candidates, combinations, graphs, known, six, counted, stored, try, tries, turn, pass, outcome, after, passesFrom}
 use Rattle.orders.specs.Modes.{newEntry}
 use Rattle.orders.specs.Plans.{Plan, end, End, ends, tried, run, outcomeOf, triesPlan, turnsPlan, afterPass, passesPlan}
 use Rattle.orders.proofs.Plain.{judged, plain}

@@ -10,8 +10,8 @@ use lib.ListN.{length, length-append}
 use lib.Seq.{getD-append-seam}
 use borrow.Author.Tests.{eqb-true, eq-eqb}
 use Rattle.numbers.specs.Lists.{both}
-use Rattle.passes.specs.declared.Entry.{Entry}
-use Rattle.passes.specs.Passes.{System, noEntry, entry, graphs, known}
+use Rattle.rules.specs.declared.Entry.{Entry}
+use Rattle.rules.specs.Passes.{System, noEntry, entry, graphs, known}
 use Rattle.orders.specs.Stored.{Different, Holds}
 use Rattle.orders.specs.Modes.{Judged, round, needless, fresh, newEntry, Mode, Covered, Later, Shown, circle, settled, added, Lawful, Above, Monotone}
 use Rattle.orders.proofs.Members.{both-split, both-join, clash}

@@ -7,8 +7,8 @@ use native.Mathlib.Omega.{arith}
 use lib.Dec.{leb}
 use lib.ListN.{length, length-append}
 use borrow.Author.Tests.{leb-true, leb-false, le-leb, lt-leb}
-use Rattle.passes.specs.declared.Answer.the-variants.{Noncircular, Circular, OutOfSteps, OutOfRoom}
-use Rattle.passes.specs.Passes.{System, seven, noRoot}
+use Rattle.rules.specs.declared.Answer.the-variants.{Noncircular, Circular, OutOfSteps, OutOfRoom}
+use Rattle.rules.specs.Passes.{System, seven, noRoot}
 use Rattle.orders.specs.Modes.{Judged, round, needless, fresh, newEntry, Mode}
 use Rattle.orders.specs.Plans.{Plan, end, next, End, ends, tried, run}
 

@@ -4,10 +4,10 @@ use mathlib.Core.List.{List, [], _∷_}
 use Prim.Native.Nat.{ℕ, _≤_}
 use native.Mathlib.Omega.{arith}
 use lib.ListN.{length}
-use Rattle.passes.specs.declared.Answer.{Answer}
-use Rattle.passes.specs.declared.Answer.the-variants.{Noncircular, Circular, OutOfSteps, OutOfRoom}
-use Rattle.passes.specs.Passes.{Outcome, passes}
-use Rattle.passes.specs.Test.{opened}
+use Rattle.rules.specs.declared.Answer.{Answer}
+use Rattle.rules.specs.declared.Answer.the-variants.{Noncircular, Circular, OutOfSteps, OutOfRoom}
+use Rattle.rules.specs.Passes.{Outcome, passes}
+use Rattle.rules.specs.Test.{opened}
 use Rattle.orders.specs.Stored.{In, Root, Saturated}
 use Rattle.orders.specs.Answers.{Verdict, OneStored}
 use Rattle.orders.specs.Samples.{small, A, B, productions}

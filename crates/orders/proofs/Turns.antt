@@ -7,7 +7,7 @@ use Prim.Native.Nat.{ℕ, zero, suc, _-_, _≤_, _<_}
 use native.Mathlib.Omega.{arith}
 use lib.Dec.{eqb}
 use borrow.Author.Tests.{eqb-true, eqb-false}
-use Rattle.passes.specs.Passes.{System, entry}
+use Rattle.rules.specs.Passes.{System, entry}
 use Rattle.orders.specs.Stored.{In, Fits, Combination}
 use Rattle.orders.specs.Modes.{Mode, Candidate, Later, Settled, AllSettled, Turned, Turns, none, then, Lawful}
 use Rattle.orders.specs.Plans.{Plan, end, next, triesPlan, turnsPlan, afterPass, passesPlan}

@@ -3,8 +3,8 @@ use mathlib.Core.Path.{_≡_}
 use mathlib.Core.List.{List}
 use Prim.Native.Nat.{ℕ, _<_, _≤_}
 use lib.ListN.{length}
-use Rattle.passes.specs.declared.Answer.the-variants.{OutOfRoom}
-use Rattle.passes.specs.Passes.{System, State, pass, empty, passesFrom, passes}
+use Rattle.rules.specs.declared.Answer.the-variants.{OutOfRoom}
+use Rattle.rules.specs.Passes.{System, State, pass, empty, passesFrom, passes}
 use Rattle.orders.specs.Stored.{In}
 use Rattle.orders.specs.Answers.{Sound, Verdict, StepsCompared, RoomCompared, OneStored, reached, Passed}
 

@@ -4,9 +4,9 @@ use mathlib.Core.List.{List, [], _∷_}
 use Prim.Native.Nat.{ℕ, zero, suc}
 use lib.Dec.{leb, eqb}
 use lib.ListN.{length}
-use Rattle.passes.specs.declared.Answer.{Answer}
-use Rattle.passes.specs.declared.Answer.the-variants.{Noncircular, Circular, OutOfSteps, OutOfRoom}
-use Rattle.passes.specs.Passes.{System, Outcome, outcome, seven, noRoot}
+use Rattle.rules.specs.declared.Answer.{Answer}
+use Rattle.rules.specs.declared.Answer.the-variants.{Noncircular, Circular, OutOfSteps, OutOfRoom}
+use Rattle.rules.specs.Passes.{System, Outcome, outcome, seven, noRoot}
 use Rattle.orders.specs.Modes.{Judged, round, needless, fresh, Mode}
 
 -- It is over after the pass number n. Or in the pass number n the production p is tried over the combination c, and where the run goes on,

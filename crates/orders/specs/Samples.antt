@@ -4,7 +4,7 @@ use mathlib.Core.List.{List, [], _∷_}
 use Prim.Native.Nat.{ℕ, zero, suc}
 use lib.Dec.{eqb}
 use lib.ListN.{getD}
-use Rattle.passes.specs.Passes.{System}
+use Rattle.rules.specs.Passes.{System}
 
 -- by the number of the production
 abbrev pub pick : {A : Type 0} → ℕ → A → A → A → A

@@ -4,8 +4,8 @@ use mathlib.Core.Bool.{true, false}
 use mathlib.Core.List.{List, [], _∷_, List·Memᴰ}
 use Prim.Native.Nat.{ℕ, _<_}
 use lib.ListN.{length, take}
-use Rattle.passes.specs.declared.Entry.{Entry}
-use Rattle.passes.specs.Passes.{System, entry, graphs, seven}
+use Rattle.rules.specs.declared.Entry.{Entry}
+use Rattle.rules.specs.Passes.{System, entry, graphs, seven}
 
 -- the productions of a list
 abbrev pub In : List ℕ → ℕ → Type 0

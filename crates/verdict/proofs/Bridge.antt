@@ -20,7 +20,7 @@ use Rattle.trees.specs.Compound.{OverGraphs, Makes, NumberHolds}
 use Rattle.trees.specs.Numbered.{Numbered}
 use Rattle.numbers.proofs.Ways.{carried}
 use Rattle.trees.proofs.Numbers.{source-below, target-below, numbered-circles, numbered-makes}
-use Rattle.passes.specs.Test.{systemOf}
+use Rattle.rules.specs.Test.{systemOf}
 
 -- ---- what is kept of a list
 module _ {A : Type 0} (f : A → Bool) where

@@ -22,11 +22,11 @@ use Rattle.trees.specs.Record as record-of-trees
 use Rattle.trees.specs.Record.{pairs, OfTree}
 use Rattle.trees.proofs.Saturation.{none-circular}
 use Rattle.trees.proofs.Evaluators as evaluators
-use Rattle.passes.specs.declared.Answer.{Answer}
-use Rattle.passes.specs.declared.Answer.the-variants.{Noncircular, Circular, Refused, OutOfSteps, OutOfRoom}
-use Rattle.passes.specs.declared.Entry.{Entry}
-use Rattle.passes.specs.Passes.{Outcome, outcome, noRoot, empty, entry, numbered, passes}
-use Rattle.passes.specs.Test.{systemOf, byNumber, test}
+use Rattle.rules.specs.declared.Answer.{Answer}
+use Rattle.rules.specs.declared.Answer.the-variants.{Noncircular, Circular, Refused, OutOfSteps, OutOfRoom}
+use Rattle.rules.specs.declared.Entry.{Entry}
+use Rattle.rules.specs.Passes.{Outcome, outcome, noRoot, empty, entry, numbered, passes}
+use Rattle.rules.specs.Test.{systemOf, byNumber, test}
 use Rattle.orders.specs.Answers as runs
 use Rattle.orders.specs.Stored.{In}
 use Rattle.orders.proofs.Answers as runs-shown

@@ -17,9 +17,9 @@ use Rattle.trees.proofs.Lists.{of-upFrom, upFrom-holds}
 use Rattle.trees.proofs.Numbers.{told-apart}
 use Rattle.trees.proofs.Saturation.{all-stored}
 use Rattle.trees.proofs.Counting.{length-pairs, pairs-differ, pairs-of-trees, one-graph, counting-numbers}
-use Rattle.passes.specs.declared.Entry.{Entry}
-use Rattle.passes.specs.Passes.{entry}
-use Rattle.passes.specs.Test.{systemOf, byNumber}
+use Rattle.rules.specs.declared.Entry.{Entry}
+use Rattle.rules.specs.Passes.{entry}
+use Rattle.rules.specs.Test.{systemOf, byNumber}
 use Rattle.orders.specs.Stored.{In, Made, Different, Holds}
 use Rattle.verdict.specs.Demands.{told}
 use Rattle.verdict.proofs.Trees.{small, all-derived, next-tree}

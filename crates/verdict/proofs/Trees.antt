@@ -17,9 +17,9 @@ use Rattle.trees.specs.Record as record-of-trees
 use Rattle.trees.specs.Record.{shown, Derived, Shows, OfTree}
 use Rattle.trees.proofs.Lists.{of-upFrom, upFrom-holds}
 use Rattle.trees.proofs.Shown.{graphs-count, shown-complete, shown-graph, shown-circle}
-use Rattle.passes.specs.declared.Entry.{Entry}
-use Rattle.passes.specs.Passes.{System, entry, graphs}
-use Rattle.passes.specs.Test.{closed, systemOf, byNumber}
+use Rattle.rules.specs.declared.Entry.{Entry}
+use Rattle.rules.specs.Passes.{System, entry, graphs}
+use Rattle.rules.specs.Test.{closed, systemOf, byNumber}
 use Rattle.orders.specs.Stored.{In, Combination, counting, Made, Root, Holds, Saturated}
 use Rattle.verdict.specs.Demands.{kidsOf, told}
 use Rattle.verdict.proofs.Bridge.{circle-so, graph-so}

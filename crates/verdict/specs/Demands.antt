@@ -16,11 +16,11 @@ use Rattle.trees.specs.Compound.{NumberHolds}
 use Rattle.trees.specs.Evaluator.{State, left, given, MayTake, StandsStill, Reached, Evaluator}
 use Rattle.trees.specs.Record as record-of-trees
 use Rattle.trees.specs.Record.{shown, pairs, OfTree}
-use Rattle.passes.specs.declared.Answer.{Answer}
-use Rattle.passes.specs.declared.Answer.the-variants.{Noncircular, Circular, Refused, OutOfSteps, OutOfRoom}
-use Rattle.passes.specs.declared.Entry.{Entry}
-use Rattle.passes.specs.Passes.{Outcome, outcome, entry, noRoot, empty}
-use Rattle.passes.specs.Test.{test}
+use Rattle.rules.specs.declared.Answer.{Answer}
+use Rattle.rules.specs.declared.Answer.the-variants.{Noncircular, Circular, Refused, OutOfSteps, OutOfRoom}
+use Rattle.rules.specs.declared.Entry.{Entry}
+use Rattle.rules.specs.Passes.{Outcome, outcome, entry, noRoot, empty}
+use Rattle.rules.specs.Test.{test}
 
 -- ---- words
 

@@ -4,8 +4,8 @@ use mathlib.Core.List.{List, [], _∷_, _++_, map}
 use Prim.Native.Nat.{ℕ}
 use lib.ListN.{take, set}
 use Rattle.grammar.specs.Refusal.{refusal}
-use Rattle.passes.specs.Test.{opened}
-use Rattle.passes.specs.Small.{tableA, tableB}
+use Rattle.rules.specs.Test.{opened}
+use Rattle.rules.specs.Small.{tableA, tableB}
 
 -- A itself; 23 bytes; one byte past the total; n = 7 and n = 8; an attribute count of 8 and of 9; no symbol; the start not below N;
 -- a spare slot; a mask bit at the count; an edge's production, occurrence, attribute and target; an edge given twice; two edges exchanged

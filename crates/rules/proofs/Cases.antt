@@ -3,12 +3,12 @@ use mathlib.Core.Path.{_≡_, refl}
 use mathlib.Core.List.{List, [], _∷_}
 use Prim.Native.Nat.{ℕ}
 use lib.ListN.{replicate}
-use Rattle.passes.specs.declared.Answer.{Answer}
-use Rattle.passes.specs.declared.Answer.the-variants.{Noncircular, Circular}
-use Rattle.passes.specs.declared.Entry.{Entry}
-use Rattle.passes.specs.Passes.{Outcome, numbered}
-use Rattle.passes.specs.Test.{test, opened}
-use Rattle.passes.specs.Small.{tableA, tableB, tableC, tableD, tableR, tableQ}
+use Rattle.rules.specs.declared.Answer.{Answer}
+use Rattle.rules.specs.declared.Answer.the-variants.{Noncircular, Circular}
+use Rattle.rules.specs.declared.Entry.{Entry}
+use Rattle.rules.specs.Passes.{Outcome, numbered}
+use Rattle.rules.specs.Test.{test, opened}
+use Rattle.rules.specs.Small.{tableA, tableB, tableC, tableD, tableR, tableQ}
 
 -- a line of the table: the answer, the closures, the entries, the passes
 abbrev Line : Type 0

@@ -10,7 +10,7 @@ use Rattle.grammar.specs.Grammar.{Grammar, production, rights, symbolAt, edgesO
 use Rattle.grammar.specs.Table.{symbolIn, productionIn, edgeIn, edgesIn, grammarOf}
 use Rattle.grammar.specs.Refusal.{countsOk, offsetsOk, symbolOk, productionOk, nodeOk, allowed, edgeOk, oneEdge, edgesFrom, edgesRefusal, refusal}
 use Rattle.graph.specs.Rows.{link, own, placedTo, placedFrom, compound, through, step, stepsTo, closure, circleTo, hasCircle, rootTo, rootGraph}
-use Rattle.passes.specs.Passes.{System, Outcome, outcome, numbered, noRoot, seven, candidates, prefixed, combinations, known, six, try, tries, turn, pass, empty, passesFrom, passes}
+use Rattle.rules.specs.Passes.{System, Outcome, outcome, numbered, noRoot, seven, candidates, prefixed, combinations, known, six, try, tries, turn, pass, empty, passesFrom, passes}
 
 -- the closed rows of a production's compound graph over the graphs gs
 abbrev pub closed : ℕ → Grammar → ℕ → List ℕ → List ℕ

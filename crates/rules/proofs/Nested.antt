@@ -2,8 +2,8 @@
 use mathlib.Core.Path.{_≡_, refl, ap, _∙_}
 use mathlib.Core.List.{List, [], _∷_, _++_, map, append-assoc, append-nil}
 use Prim.Native.Nat.{ℕ}
-use Rattle.passes.specs.Passes.{System, State, Ran, going, stopped, andThen, prefixed, combinations, try, tries}
-use Rattle.passes.proofs.Growth.{tries-append}
+use Rattle.rules.specs.Passes.{System, State, Ran, going, stopped, andThen, prefixed, combinations, try, tries}
+use Rattle.rules.proofs.Growth.{tries-append}
 
 -- each combination behind what is chosen already
 unfoldable pub behind : List ℕ → List (List ℕ) → List (List ℕ)

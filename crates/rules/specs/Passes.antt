@@ -5,10 +5,10 @@ use Prim.Native.Nat.{ℕ, zero, suc, _-_}
 use lib.Dec.{leb, ltb, eqb}
 use lib.ListN.{length, getD, replicate}
 use Rattle.numbers.specs.Lists.{both, upFrom, keep}
-use Rattle.passes.specs.declared.Answer.{Answer}
-use Rattle.passes.specs.declared.Answer.the-variants.{Noncircular, Circular, Refused, OutOfSteps, OutOfRoom}
-use Rattle.passes.specs.declared.Report.{Report}
-use Rattle.passes.specs.declared.Entry.{Entry}
+use Rattle.rules.specs.declared.Answer.{Answer}
+use Rattle.rules.specs.declared.Answer.the-variants.{Noncircular, Circular, Refused, OutOfSteps, OutOfRoom}
+use Rattle.rules.specs.declared.Report.{Report}
+use Rattle.rules.specs.declared.Entry.{Entry}
 
 -- What the passes ask of a grammar. Over given subtree graphs a production has one compound graph: `graph` is the graph of the root
 -- that its closure gives, `circle` says whether it has a circle.

@@ -8,8 +8,8 @@ use native.Mathlib.Nat.{le-refl, le-trans}
 use lib.Dec.{leb, eqb}
 use lib.ListN.{length, length-append}
 use borrow.Author.Tests.{leb-false, eqb-false}
-use Rattle.passes.specs.declared.Answer.the-variants.{Noncircular}
-use Rattle.passes.specs.Passes.{System, State, Ran, going, stopped, andThen, six, counted, stored, try, tries, turn, pass, Outcome, outcome, after, noRoot, passesFrom}
+use Rattle.rules.specs.declared.Answer.the-variants.{Noncircular}
+use Rattle.rules.specs.Passes.{System, State, Ran, going, stopped, andThen, six, counted, stored, try, tries, turn, pass, Outcome, outcome, after, noRoot, passesFrom}
 
 -- a list of combinations in two parts
 module _ (W : System) (limit room p : ℕ) where

@@ -1,0 +1,98 @@
+-- Each demand at A, B and R: what it asks can be met. Assumes nothing.
+use mathlib.Core.Path.{_≡_, refl, ap, sym, _∙_}
+use mathlib.Core.List.{List, [], _∷_}
+use Prim.Native.Nat.{ℕ, _≤_, _<_}
+use native.Mathlib.Omega.{arith}
+use lib.ListN.{length, take}
+use Rattle.grammar.specs.Table.{grammarOf}
+use Rattle.grammar.specs.Rules.{Breaks}
+use Rattle.grammar.specs.Refusal.{refusal}
+use Rattle.trees.specs.Tree.{Tree, node, nil, cons}
+use Rattle.rules.specs.declared.Answer.{Answer}
+use Rattle.rules.specs.declared.Answer.the-variants.{Noncircular, Circular, Refused, OutOfSteps, OutOfRoom}
+use Rattle.rules.specs.Test.{opened}
+use Rattle.rules.specs.Small.{tableA, tableB, tableR}
+use Rattle.verdict.specs.Demands.{back, answer, TreeOf, HasCircle, shownTree, NoncircularNone, RoomCounts, MorePairs, NeverStill, StandsStillLeft}
+use Rattle.verdict.proofs.Demands.{refused-exactly, circular-shown, noncircular-none, steps-exactly, room-exactly, room-counts, never-still, stands-still}
+
+-- ---- demand 1: of A 23 bytes are refused by 1, and A itself by no number
+short-A : answer (take 23 tableA) 10 3 ≡ Refused 1
+unfolding opened tableA
+short-A = refl
+
+header-A : Breaks 8 (take 23 tableA) 1
+header-A = refused-exactly (take 23 tableA) 10 3 1 .exactly .0 short-A
+
+taken-A : refusal 8 tableA ≡ 0
+unfolding opened tableA
+taken-A = refl
+
+-- ---- demand 2 at A
+noncircular-A : answer tableA 10 3 ≡ Noncircular
+unfolding opened tableA
+noncircular-A = refl
+
+none-A : NoncircularNone tableA
+none-A = noncircular-none tableA 10 3 noncircular-A
+
+closures-A : back tableA 10 3 .report .closures ≡ 10
+unfolding opened tableA
+closures-A = refl
+
+-- A makes 10 closures, so 9 are not enough
+steps-A : answer tableA 9 3 ≡ OutOfSteps
+steps-A = steps-exactly tableA 9 10 3 (omega arith) .exactly .1 (omega (arith, closures-A))
+
+entries-A : length (back tableA 10 3 .entries) ≡ 3
+unfolding opened tableA
+entries-A = refl
+
+closures-room-A : back tableA 10 2 .report .closures ≡ 3
+unfolding opened tableA
+closures-room-A = refl
+
+-- A stores 3 entries, so a room of 2 is not enough; and its trees have more than 2 pairs of root symbol and graph
+room-A : answer tableA 10 2 ≡ OutOfRoom
+room-A =
+    room-exactly tableA 10 10 2 3 (omega arith) (omega (arith, closures-room-A)) (omega arith) .exactly .1 (omega (arith, entries-A))
+
+more-than-two : MorePairs tableA 2
+more-than-two =
+    room-counts tableA 10 2 taken-A none-A (λ e. let z : _≡_ {A = ℕ} 0 1 = cc room-A in omega arith) .exactly .0 room-A
+
+not-three : ¬ MorePairs tableA 3
+not-three m =
+    let c = room-counts tableA 10 3 taken-A none-A (λ e. let z : _≡_ {A = ℕ} 0 1 = cc noncircular-A in omega arith) in
+    let k = c .exactly .1 m in
+    let z : _≡_ {A = ℕ} 0 1 = cc noncircular-A in omega arith
+
+-- ---- demand 3 at A: an evaluator on production 0 over production 1 never stands still too early
+tree-A : TreeOf tableA (node 0 (cons (node 1 nil) nil))
+unfolding opened tableA
+tree-A = (omega arith, (refl, (omega arith, tt), tt))
+
+goes-on-A : NeverStill tableA (node 0 (cons (node 1 nil) nil))
+goes-on-A = never-still tableA 10 3 noncircular-A (node 0 (cons (node 1 nil) nil)) tree-A
+
+-- ---- demands 2 and 3 at B: the shown tree, its circle, and evaluators on it
+circular-B : answer tableB 3 2 ≡ Circular 0
+unfolding opened tableB
+circular-B = refl
+
+shown-B : shownTree tableB (back tableB 3 2) 0 ≡ node 0 (cons (node 1 nil) nil)
+unfolding opened tableB
+shown-B = refl
+
+circle-B : HasCircle tableB (shownTree tableB (back tableB 3 2) 0)
+circle-B = circular-shown tableB 3 2 0 circular-B .circle
+
+still-B : StandsStillLeft tableB (shownTree tableB (back tableB 3 2) 0)
+still-B = stands-still tableB 3 2 0 circular-B
+
+-- ---- demand 2 at R, which has trees without end
+noncircular-R : answer tableR 5 2 ≡ Noncircular
+unfolding opened tableR
+noncircular-R = refl
+
+none-R : NoncircularNone tableR
+none-R = noncircular-none tableR 5 2 noncircular-R
