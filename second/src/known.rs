@@ -251,15 +251,11 @@ pub fn family_t_spread(k: usize) -> Grammar {
     steps(k, &[cycle(k), swap(k), spread])
 }
 
-/// U_k, k from 1 to 4: a leaf for each pair, and X → X X that joins both, so
-/// every graph of one or more pairs.
-pub fn family_u(k: usize) -> Grammar {
+/// S → X, a leaf for each list of pairs, and X → X X that joins both.
+pub fn joined(k: usize, lists: &[Vec<(usize, usize)>]) -> Grammar {
     let mut grammar = family(k);
-    for i in 0..k {
-        for j in 0..k {
-            grammar.productions.push(leaf(&[(i, j)], k));
-        }
-    }
+    let leaves = lists.iter().map(|pairs| leaf(pairs, k));
+    grammar.productions.extend(leaves);
     let mut edges = Vec::new();
     for child in [1, 2] {
         edges.extend((0..k).map(|j| (0, j, child, j)));
@@ -267,6 +263,13 @@ pub fn family_u(k: usize) -> Grammar {
     }
     grammar.productions.push(production(X, &[X, X], &edges));
     grammar
+}
+
+/// U_k, k from 1 to 4: a leaf for each pair, and X → X X that joins both, so
+/// every graph of one or more pairs.
+pub fn family_u(k: usize) -> Grammar {
+    let pairs = (0..k).flat_map(|i| (0..k).map(move |j| (i, j)));
+    joined(k, &pairs.map(|pair| vec![pair]).collect::<Vec<_>>())
 }
 
 /// T_4 with a symbol that has six X and a symbol without a finite tree on its
@@ -279,6 +282,38 @@ pub fn starved() -> Grammar {
     let right = [X, X, X, X, X, X, never];
     grammar.productions.push(production(whole, &right, &[]));
     grammar
+}
+
+/// The longest table there is, circular through its last edge alone: a leaf
+/// and a step for each of 256 symbols, both with 16 edges.
+pub fn full() -> Grammar {
+    let last = 255;
+    let symbols = vec![symbol("iiiissss"); last + 1];
+    let all = || (0..4).flat_map(|i| (0..4).map(move |j| (i, j)));
+    let mut productions = Vec::new();
+    for left in 0..=last {
+        let pairs: Vec<_> = all().collect();
+        productions.push(Production {
+            left,
+            ..leaf(&pairs, 4)
+        });
+    }
+    for left in 0..=last {
+        let pairs: Vec<_> = all().filter(|pair| pair.0 != left % 4).collect();
+        productions.push(Production {
+            left,
+            right: vec![last.min(left + 1)],
+            ..step(&pairs, 4)
+        });
+    }
+    let edges = &mut productions[511].edges;
+    edges.remove(0);
+    edges.push(edge((1, 7, 1, 3)));
+    Grammar {
+        symbols,
+        productions,
+        start: last,
+    }
 }
 
 /// The grammars that are written out as samples, with their names.

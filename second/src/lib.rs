@@ -13,6 +13,7 @@ pub mod report;
 pub mod table;
 pub mod text;
 pub mod tree;
+pub mod vectors;
 
 pub use graph::{compound_closure, Closure};
 pub use passes::{run, run_grammar, Answer, Entry, Outcome};

@@ -221,6 +221,51 @@ pub fn maps(seed: u64) -> Vec<u8> {
     table::write(&known::steps(k, &lists))
 }
 
+/// Few symbols with many attributes, each with a finite tree: where no circle
+/// ends them, runs of some hundred closures.
+pub fn long(seed: u64) -> Vec<u8> {
+    let random = &mut Random::new(seed);
+    let symbols = random.between(1, 3);
+    let shape = Shape {
+        symbols,
+        productions: symbols + random.between(3, 14),
+        edges: random.between(20, 70),
+        attributes: (4, MOST_ATTRIBUTES),
+        right: (random.below(2), 2),
+        grounded: true,
+    };
+    table::write(&grammar(random, &shape))
+}
+
+/// Productions with seven right symbols that have finite trees: compound
+/// graphs of up to 64 nodes.
+pub fn sevens(seed: u64) -> Vec<u8> {
+    let random = &mut Random::new(seed);
+    let symbols = random.between(1, 4);
+    let shape = Shape {
+        symbols,
+        productions: symbols + random.between(1, 4),
+        edges: random.between(10, 80),
+        attributes: (random.between(4, MOST_ATTRIBUTES), MOST_ATTRIBUTES),
+        right: (MOST_RIGHT, MOST_RIGHT),
+        grounded: true,
+    };
+    table::write(&grammar(random, &shape))
+}
+
+/// Like U_4 with more leaves: some thousand closures lead to more entries
+/// than any room holds.
+pub fn crowd(seed: u64) -> Vec<u8> {
+    let random = &mut Random::new(seed);
+    let k = 4;
+    let mut lists = Vec::new();
+    for _ in 0..64 {
+        let pairs = (0..k * k).filter(|_| random.once_in(4));
+        lists.push(pairs.map(|pair| (pair / k, pair % k)).collect());
+    }
+    table::write(&known::joined(k, &lists))
+}
+
 /// A table damaged in one of many ways; now and then it is still taken.
 pub fn damaged(seed: u64) -> Vec<u8> {
     let random = &mut Random::new(seed);

@@ -14,25 +14,43 @@ pub fn report(table: &[u8], limit: u32, room: usize) -> String {
 
 /// The report on a run of this grammar.
 pub fn print(grammar: &Grammar, outcome: &Outcome) -> String {
-    let mut text = format!(
+    first_line(outcome) + &entry_lines(grammar, outcome) + &root_line(grammar, outcome)
+}
+
+/// The same without the entry lines.
+pub fn print_short(grammar: &Grammar, outcome: &Outcome) -> String {
+    first_line(outcome) + &root_line(grammar, outcome)
+}
+
+fn first_line(outcome: &Outcome) -> String {
+    format!(
         "{} closures {} entries {} passes {}\n",
         word(outcome.answer),
         outcome.closures,
         outcome.entries(),
         outcome.passes,
-    );
+    )
+}
+
+fn entry_lines(grammar: &Grammar, outcome: &Outcome) -> String {
+    let mut text = String::new();
     for (number, entry) in outcome.stored.iter().enumerate() {
         let kids = kids(grammar, entry.production, &entry.kids);
         let (symbol, production, graph) = (entry.symbol, entry.production, entry.graph);
         let line = format!("entry {number} symbol {symbol} production {production}");
         let _ = writeln!(text, "{line} kids{kids} graph {graph}");
     }
-    if outcome.answer == Answer::Circular {
-        let production = outcome.root_production;
-        let kids = kids(grammar, production, &outcome.root_kids);
-        let _ = writeln!(text, "root production {production} kids{kids}");
-    }
     text
+}
+
+/// Nothing unless the answer is circular.
+fn root_line(grammar: &Grammar, outcome: &Outcome) -> String {
+    if outcome.answer != Answer::Circular {
+        return String::new();
+    }
+    let production = outcome.root_production;
+    let kids = kids(grammar, production, &outcome.root_kids);
+    format!("root production {production} kids{kids}\n")
 }
 
 fn word(answer: Answer) -> &'static str {

@@ -180,6 +180,15 @@ fn a_symbol_without_entries_costs_nothing() {
 }
 
 #[test]
+fn the_last_of_8192_edges_decides() {
+    let mut full = known::full();
+    assert_eq!(write(&full).len(), 58_904);
+    hold_freely(full.clone(), (Circular, 512, 511, 1));
+    full.productions[511].edges.pop();
+    assert_eq!(run(&write(&full), 10_000, 4096).answer, Noncircular);
+}
+
+#[test]
 fn no_production_and_no_limit() {
     hold(known::empty(), u32::MAX, usize::MAX, (Noncircular, 0, 0, 1));
     hold(known::r(), u32::MAX, usize::MAX, (Noncircular, 5, 2, 2));

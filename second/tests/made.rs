@@ -18,6 +18,9 @@ fn valid_tables_are_taken() {
         assert_eq!(refusal(&make::border(seed)), 0, "border {seed}");
         assert_eq!(refusal(&make::known_table(seed)), 0, "known {seed}");
         assert_eq!(refusal(&make::maps(seed)), 0, "maps {seed}");
+        assert_eq!(refusal(&make::long(seed)), 0, "long {seed}");
+        assert_eq!(refusal(&make::sevens(seed)), 0, "sevens {seed}");
+        assert_eq!(refusal(&make::crowd(seed)), 0, "crowd {seed}");
     }
 }
 

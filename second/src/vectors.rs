@@ -1,0 +1,420 @@
+//! A corpus for another program to run: tables with limits and rooms at the
+//! borders of each run, and what must be printed.
+
+use crate::damage::{damage, Damage, ALL};
+use crate::known;
+use crate::make;
+use crate::passes::{run, run_grammar, Answer, Outcome, MOST_ENTRIES};
+use crate::random::Random;
+use crate::report::{print, print_short};
+use crate::table::{self, Grammar, Header, EDGE_BYTES, SYMBOL_BYTES};
+use std::collections::BTreeSet;
+
+/// A run of a table. Without entry lines only the first line and the root's
+/// are printed.
+#[derive(Clone, Debug, PartialEq, Eq)]
+pub struct Run {
+    pub limit: u32,
+    pub room: u16,
+    pub entry_lines: bool,
+}
+
+#[derive(Clone, Debug, PartialEq, Eq)]
+pub struct Case {
+    pub table: Vec<u8>,
+    pub runs: Vec<Run>,
+}
+
+/// A limit and a room that are enough for most tables, to learn what they
+/// need.
+const GENEROUS_LIMIT: u32 = 20_000;
+const GENEROUS_ROOM: u16 = 600;
+
+const LONGEST_TABLE: usize = 58_904;
+
+/// A way to make a table from a seed.
+type Maker = fn(u64) -> Vec<u8>;
+
+/// Random tables: how many of each, and the fewest and the most closures
+/// that one may need. With few a circle came early; many take long.
+const MADE: [(Maker, usize, u32, u32); 7] = [
+    (make::tiny, 90, 0, USUAL_MOST),
+    (make::lively, 160, 0, USUAL_MOST),
+    (make::small, 180, 0, USUAL_MOST),
+    (make::maps, 80, 0, USUAL_MOST),
+    (make::long, 120, 20, USUAL_MOST),
+    (make::sevens, 60, 10, 1_500),
+    (make::maps, 4, USUAL_MOST, GENEROUS_LIMIT),
+];
+
+/// How many tables whose circle comes late, and from which closure on.
+const LATE_CIRCLES: (usize, u32) = (120, 10);
+
+/// How many tables for each kind of damage.
+const DAMAGED: usize = 142;
+
+/// How many tables with an edge that is bad in two ways.
+const TWICE_BAD: usize = 40;
+
+/// Damage to records; edges twice, since theirs is checked edge by edge.
+const RECORDS_BROKEN: [Damage; 8] = [
+    Damage::SymbolBroken,
+    Damage::ProductionBroken,
+    Damage::EdgeBroken,
+    Damage::EdgeBroken,
+    Damage::EdgeDoubled,
+    Damage::EdgeDoubled,
+    Damage::EdgesSwapped,
+    Damage::EdgesSwapped,
+];
+
+/// The most closures that other tables may need.
+const USUAL_MOST: u32 = 4_000;
+
+/// The corpus of a seed.
+pub fn cases(seed: u64) -> Vec<Case> {
+    let random = &mut Random::new(seed);
+    let mut cases = k1_to_k10();
+    cases.extend(known_cases(random));
+    cases.extend(border_cases(random));
+    cases.push(crowd_case(random));
+    let mut rest = made_cases(random);
+    rest.extend(damaged_cases(random));
+    // Mixed, so that what is left over from one kind meets another.
+    random.shuffle(&mut rest);
+    cases.extend(rest);
+    cases
+}
+
+/// The cases as bytes, one after the other.
+pub fn input(cases: &[Case]) -> Vec<u8> {
+    let mut bytes = Vec::new();
+    for case in cases {
+        bytes.extend((case.table.len() as u32).to_le_bytes());
+        bytes.extend(&case.table);
+        bytes.push(case.runs.len() as u8);
+        for run in &case.runs {
+            bytes.extend(run.limit.to_le_bytes());
+            bytes.extend(run.room.to_le_bytes());
+            bytes.push(run.entry_lines as u8);
+        }
+    }
+    bytes
+}
+
+/// What must be printed, run by run.
+pub fn output(cases: &[Case]) -> String {
+    let mut text = String::new();
+    for case in cases {
+        let read = table::read(&case.table);
+        for run in &case.runs {
+            text += &match &read {
+                Ok(grammar) => printed(grammar, run),
+                Err(number) => format!("refused {number}\n"),
+            };
+        }
+    }
+    text
+}
+
+fn printed(grammar: &Grammar, run: &Run) -> String {
+    let outcome = run_grammar(grammar, run.limit, run.room.into());
+    if run.entry_lines {
+        print(grammar, &outcome)
+    } else {
+        print_short(grammar, &outcome)
+    }
+}
+
+/// The page's cases.
+fn k1_to_k10() -> Vec<Case> {
+    let case = |grammar, bounds: &[(u32, u16)]| Case {
+        table: table::write(&grammar),
+        runs: bounds.iter().map(|&bounds| with_lines(bounds)).collect(),
+    };
+    vec![
+        case(known::a(), &[(10, 3), (9, 3), (10, 2), (0, 0)]),
+        case(known::b(), &[(3, 2), (2, 2), (3, 1), (1, 1)]),
+        case(known::c(), &[(0, 0)]),
+        case(known::empty(), &[(0, 0)]),
+    ]
+}
+
+/// The grammars with known counts. U_3 makes too many closures.
+fn known_cases(random: &mut Random) -> Vec<Case> {
+    let samples = known::samples().into_iter();
+    let mut grammars: Vec<_> = samples
+        .filter(|(name, _)| *name != "u3")
+        .map(|(_, grammar)| grammar)
+        .collect();
+    grammars.push(known::family_u(2));
+    grammars.push(known::starved());
+    let mut cases = Vec::new();
+    for grammar in grammars {
+        cases.push(case(random, table::write(&grammar)));
+    }
+    print_first_runs(&mut cases);
+    cases
+}
+
+/// Tables at the borders of their size, and some a byte longer than any.
+fn border_cases(random: &mut Random) -> Vec<Case> {
+    let mut cases = Vec::new();
+    for (which, count) in [(0, 3), (1, 6), (2, 4), (3, 2), (4, 1)] {
+        let make = |seed| make::border_of(&mut Random::new(seed), which);
+        for _ in 0..count {
+            cases.push(draw(random, make, USUAL_MOST, |_, _| true));
+        }
+    }
+    for kind in ALL {
+        let table = make::border_of(random, 2);
+        let table = damage(random, &table, kind);
+        cases.push(case(random, table));
+    }
+    let longest = |seed| make::border_of(&mut Random::new(seed), 5);
+    for (answer, fewest) in [(Answer::Noncircular, 500), (Answer::Circular, 20)] {
+        cases.push(draw(random, longest, USUAL_MOST, |table, outcome| {
+            table.len() == LONGEST_TABLE && outcome.answer == answer && outcome.closures >= fewest
+        }));
+    }
+    let full = table::write(&known::full());
+    let mut tables = vec![full.clone()];
+    tables.extend(one_longer(&full));
+    tables.extend(last_record_bad(random, &full));
+    for table in tables {
+        cases.push(case(random, table));
+    }
+    print_first_runs(&mut cases);
+    cases
+}
+
+/// The first run of a taken table stores all its entries.
+fn print_first_runs(cases: &mut [Case]) {
+    for case in cases {
+        case.runs[0].entry_lines = true;
+    }
+}
+
+/// The longest table and one byte, with its own total, with a total that
+/// counts the byte, and with an edge too many.
+fn one_longer(longest: &[u8]) -> [Vec<u8>; 3] {
+    let mut longer = longest.to_vec();
+    longer.push(0);
+    let mut counted = longer.clone();
+    counted[20..24].copy_from_slice(&(longer.len() as u32).to_le_bytes());
+    let mut edge_more = longer.clone();
+    edge_more[4..6].copy_from_slice(&8193_u16.to_le_bytes());
+    [longer, counted, edge_more]
+}
+
+/// As many records as there may be, the last one bad: a symbol, a production,
+/// an edge, and an edge given twice.
+fn last_record_bad(random: &mut Random, full: &[u8]) -> [Vec<u8>; 4] {
+    let mut symbol = make::border_of(random, 2);
+    let at = Header::of(&symbol).productions_at() - SYMBOL_BYTES;
+    symbol[at] = 9;
+    let mut production = make::border_of(random, 3);
+    // The seventh slot, spare or not, is above all symbols.
+    let at = Header::of(&production).edges_at() - 1;
+    production[at] = 1;
+    let last = full.len() - EDGE_BYTES;
+    let mut edge = full.to_vec();
+    edge[last + 5] = 4;
+    let mut twice = full.to_vec();
+    twice.copy_within(last - EDGE_BYTES..last, last);
+    [symbol, production, edge, twice]
+}
+
+/// More than 4,096 entries: a larger room is no more than one of 4,096.
+fn crowd_case(random: &mut Random) -> Case {
+    let table = make::crowd(random.draw());
+    let closures = run(&table, GENEROUS_LIMIT, MOST_ENTRIES).closures;
+    let bounds = [
+        (closures, 4096),
+        (closures, 4097),
+        (closures, 5_000),
+        (closures, 65_535),
+        (GENEROUS_LIMIT, 65_535),
+        (closures - 1, 65_535),
+        (closures, 4095),
+    ];
+    let mut runs: Vec<_> = bounds.into_iter().map(without_lines).collect();
+    // Entry numbers of four digits, but not all of them.
+    runs.push(with_lines((closures, 1_100)));
+    Case { table, runs }
+}
+
+fn made_cases(random: &mut Random) -> Vec<Case> {
+    let mut cases = Vec::new();
+    for (make, count, fewest, most) in MADE {
+        for _ in 0..count {
+            cases.push(draw(random, make, most, |_, outcome| {
+                outcome.closures >= fewest
+            }));
+        }
+    }
+    let (count, earliest) = LATE_CIRCLES;
+    for _ in 0..count {
+        let make: Maker = *random.pick(&[make::small, make::long]);
+        cases.push(draw(random, make, USUAL_MOST, |_, outcome| {
+            outcome.answer == Answer::Circular && outcome.closures >= earliest
+        }));
+    }
+    cases
+}
+
+fn damaged_cases(random: &mut Random) -> Vec<Case> {
+    let mut cases = Vec::new();
+    for kind in ALL {
+        for _ in 0..DAMAGED {
+            let make = |seed| damaged(seed, kind);
+            cases.push(draw(random, make, USUAL_MOST, |_, _| true));
+        }
+    }
+    for _ in 0..TWICE_BAD {
+        cases.push(draw(random, edge_twice_bad, USUAL_MOST, |_, _| true));
+    }
+    cases
+}
+
+/// A table with this damage, sometimes with more.
+fn damaged(seed: u64, kind: Damage) -> Vec<u8> {
+    let random = &mut Random::new(seed);
+    let make: Maker = *random.pick(&[make::tiny, make::lively, make::small, make::maps]);
+    let mut table = make(random.draw());
+    table = damage(random, &table, kind);
+    // With a right header its records can be damaged again; then it matters
+    // which check comes first.
+    while !(1..=3).contains(&table::refusal(&table)) && random.once_in(2) {
+        let kind = *random.pick(&RECORDS_BROKEN);
+        table = damage(random, &table, kind);
+    }
+    table
+}
+
+/// A table with an edge that is out of range and mostly also out of order.
+fn edge_twice_bad(seed: u64) -> Vec<u8> {
+    let mut table = make::lively(seed);
+    let header = Header::of(&table);
+    let edge_at = |place| header.edges_at() + EDGE_BYTES * place;
+    if header.edges > 2 {
+        let place = Random::new(seed).between(2, header.edges - 1);
+        table.copy_within(edge_at(0)..edge_at(1), edge_at(place));
+        table[edge_at(place) + 5] = 8;
+    }
+    table
+}
+
+/// The case of a made table that needs no more closures than these and
+/// suits; `suits` is asked about the table and its generous run.
+fn draw(
+    random: &mut Random,
+    make: impl Fn(u64) -> Vec<u8>,
+    most: u32,
+    suits: impl Fn(&[u8], &Outcome) -> bool,
+) -> Case {
+    loop {
+        let table = make(random.draw());
+        let generous = run(&table, most, GENEROUS_ROOM.into());
+        if generous.answer != Answer::OutOfSteps && suits(&table, &generous) {
+            return case_of(random, table, &generous);
+        }
+    }
+}
+
+fn case(random: &mut Random, table: Vec<u8>) -> Case {
+    let generous = run(&table, GENEROUS_LIMIT, GENEROUS_ROOM.into());
+    case_of(random, table, &generous)
+}
+
+fn case_of(random: &mut Random, table: Vec<u8>, generous: &Outcome) -> Case {
+    let runs = match table::read(&table) {
+        Ok(grammar) => taken_runs(random, &grammar, generous),
+        Err(_) => vec![refused_run(random)],
+    };
+    Case { table, runs }
+}
+
+/// A refused table makes no closure, whatever its run allows.
+fn refused_run(random: &mut Random) -> Run {
+    let (limit, room) = make::limits(random.draw());
+    Run {
+        limit,
+        room: room as u16,
+        entry_lines: random.once_in(2),
+    }
+}
+
+/// The first run has just what the generous one needed.
+fn taken_runs(random: &mut Random, grammar: &Grammar, generous: &Outcome) -> Vec<Run> {
+    let mut seen = BTreeSet::new();
+    let mut runs = Vec::new();
+    for (limit, room) in bounds(random, grammar, generous) {
+        if !seen.insert((limit, room)) {
+            continue;
+        }
+        // The more entries, the fewer runs print them, so that a run adds
+        // less than one line on average.
+        let entry_lines = random.once_in(2 + generous.entries());
+        runs.push(Run {
+            limit,
+            room,
+            entry_lines,
+        });
+    }
+    runs
+}
+
+/// Limits and rooms about what a generous run needed. None of them makes
+/// many more closures than that did.
+fn bounds(random: &mut Random, grammar: &Grammar, generous: &Outcome) -> Vec<(u32, u16)> {
+    let (closures, entries) = (generous.closures, generous.entries() as u16);
+    let mut bounds = vec![(closures, entries)];
+    bounds.extend(closures.checked_sub(1).map(|limit| (limit, entries)));
+    bounds.push((closures + 1, entries));
+    bounds.extend(entries.checked_sub(1).map(|room| (closures, room)));
+    bounds.push((closures, entries + 1));
+    bounds.push((0, 0));
+    bounds.push((closures, 0));
+    // Where a smaller room ends the run at its last closure, and where the
+    // limit is one too small for that.
+    let room = random.below(entries as usize + 1);
+    let last = run_grammar(grammar, closures, room).closures;
+    bounds.push((last, room as u16));
+    bounds.extend(last.checked_sub(1).map(|limit| (limit, room as u16)));
+    bounds.push(anywhere(random, generous));
+    bounds
+}
+
+/// Some limit and room, also far beyond what is needed.
+fn anywhere(random: &mut Random, generous: &Outcome) -> (u32, u16) {
+    // Only a verdict comes back with more of both.
+    let verdict = matches!(generous.answer, Answer::Noncircular | Answer::Circular);
+    let limit = if verdict && random.once_in(2) {
+        *random.pick(&[1_000_000, i32::MAX as u32, 1 << 31, u32::MAX])
+    } else {
+        random.below(generous.closures as usize + 2) as u32
+    };
+    let room = if random.once_in(2) {
+        *random.pick(&[1_024, 4_095, 4_096, 4_097, 5_000, 65_535])
+    } else {
+        random.below(generous.entries() + 2) as u16
+    };
+    (limit, room)
+}
+
+fn with_lines((limit, room): (u32, u16)) -> Run {
+    Run {
+        limit,
+        room,
+        entry_lines: true,
+    }
+}
+
+fn without_lines((limit, room): (u32, u16)) -> Run {
+    Run {
+        limit,
+        room,
+        entry_lines: false,
+    }
+}
