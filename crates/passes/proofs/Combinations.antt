@@ -1,0 +1,181 @@
+-- Combinations in parts: one level of right symbols, whose candidates are met in ascending order. Assumes nothing.
+use mathlib.Core.Path.{_≡_, refl, sym, ap, ap₂, _∙_}
+use mathlib.Core.Bool.{Bool, true, false, _||_, cond}
+use mathlib.Core.List.{List, [], _∷_, _++_, map, append-assoc, append-nil}
+use Prim.Native.Nat.{ℕ, zero, suc, _+_, _-_, _≤_, _<_}
+use native.Mathlib.Nat.{zero-add, add-zero}
+use native.Mathlib.Omega.{arith}
+use native.Mathlib.Numerals.{add-one}
+use lib.Dec.{eqb}
+use lib.ListN.{length, getD, set, take, drop, length-map, length-take, drop-of-length-le}
+use lib.Seq.{drop-cons, getD-take, take-suc-set}
+use borrow.Author.Tests.{eq-eqb, ne-eqb}
+use Rattle.numbers.specs.Lists.{both, upFrom, keep}
+use Rattle.rules.specs.declared.Entry.{Entry}
+use Rattle.passes.specs.declared.Task.{Task}
+use Rattle.rules.specs.Passes.{entry, candidates, prefixed, combinations}
+use Rattle.passes.specs.Slices.{Slices}
+use Rattle.passes.specs.Follow.{entryAt, entriesTo, under, combosFrom, occursIn, allIn}
+use Rattle.passes.proofs.Entries.{map-append, at-map, length-entries, entry-at}
+
+-- ---- lists in parts
+
+pub up-split : (i n m : ℕ) → upFrom i (n + m) ≡ upFrom i n ++ upFrom (i + n) m
+unfolding upFrom
+up-split i zero m = rw (zero-add, add-zero)
+up-split i (suc n) m =
+    let e : suc n + m ≡ suc (n + m) = omega arith in
+    let f : suc i + n ≡ i + suc n = omega arith in
+    ap (upFrom i) e ∙ ap (λ (l : List ℕ). i ∷ l) (up-split (suc i) n m) ∙ ap (λ (k : ℕ). i ∷ (upFrom (suc i) n ++ upFrom k m)) f
+
+pub keep-append : (f : ℕ → Bool) (a b : List ℕ) → keep f (a ++ b) ≡ keep f a ++ keep f b
+unfolding keep
+keep-append f [] b = refl
+keep-append f (x ∷ a) b = go (f x) (keep-append f a b)
+  where
+    go : (t : Bool) → keep f (a ++ b) ≡ keep f a ++ keep f b
+        → cond t (x ∷ keep f (a ++ b)) (keep f (a ++ b)) ≡ cond t (x ∷ keep f a) (keep f a) ++ keep f b
+    go true h = ap (λ (l : List ℕ). x ∷ l) h
+    go false h = h
+
+pub prefixed-append : (a b : List ℕ) (rest : List (List ℕ)) → prefixed (a ++ b) rest ≡ prefixed a rest ++ prefixed b rest
+unfolding prefixed
+prefixed-append [] b rest = refl
+prefixed-append (x ∷ a) b rest =
+    ap (λ (l : List (List ℕ)). map (λ c. x ∷ c) rest ++ l) (prefixed-append a b rest)
+    ∙ sym (append-assoc (map (λ c. x ∷ c) rest) (prefixed a rest) (prefixed b rest))
+
+under-append : (chosen : List ℕ) (a b : List (List ℕ)) → under chosen (a ++ b) ≡ under chosen a ++ under chosen b
+unfolding under
+under-append chosen a b = map-append (λ c. chosen ++ c) a b
+
+under-cons : (chosen : List ℕ) (x : ℕ) (cs : List (List ℕ)) → under chosen (map (λ c. x ∷ c) cs) ≡ under (chosen ++ (x ∷ [])) cs
+unfolding under
+under-cons chosen x [] = refl
+under-cons chosen x (c ∷ cs) = rw (append-assoc, under-cons chosen x cs)
+
+-- ---- one level: the combinations by the candidates with numbers from i on, of which there are n
+
+module _ (es : List Entry) (y : ℕ) (chosen : List ℕ) (rest : List (List ℕ)) where
+  abbrev test : ℕ → Bool
+  test i = eqb (entry es i .symbol) y
+
+  unfoldable pub between : ℕ → ℕ → List (List ℕ)
+  between i n = under chosen (prefixed (keep test (upFrom i n)) rest)
+
+  pub between-split : (n m : ℕ) → between 0 (n + m) ≡ between 0 n ++ between n m
+  unfolding between
+  between-split n m =
+      ap (λ (l : List ℕ). under chosen (prefixed (keep test l) rest)) (up-split 0 n m ∙ ap (λ (k : ℕ). upFrom 0 n ++ upFrom k m) (zero-add n))
+      ∙ ap (λ (l : List ℕ). under chosen (prefixed l rest)) (keep-append test (upFrom 0 n) (upFrom n m))
+      ∙ ap (under chosen) (prefixed-append (keep test (upFrom 0 n)) (keep test (upFrom n m)) rest)
+      ∙ under-append chosen (prefixed (keep test (upFrom 0 n)) rest) (prefixed (keep test (upFrom n m)) rest)
+
+  -- a candidate
+  pub between-hit : (e : ℕ) → entry es e .symbol ≡ y → between e 1 ≡ under (chosen ++ (e ∷ [])) rest
+  unfolding between upFrom keep prefixed
+  between-hit e h =
+      simp (eq-eqb _ _ h, append-nil) (under-cons chosen e rest)
+
+  pub between-other : (e : ℕ) → (entry es e .symbol ≡ y → ⊥) → between e 1 ≡ []
+  unfolding between upFrom keep prefixed under
+  between-other e h = simp (ne-eqb _ _ h)
+
+  pub between-none : (e : ℕ) → between e 0 ≡ []
+  unfolding between upFrom keep prefixed under
+  between-none e = refl
+
+-- ---- the levels of a task
+
+module _ (k : Task) (es : List Entry) (n : ℕ) (picked : List ℕ) where
+  -- below the last right symbol
+  pub combos-leaf : n ≡ k .count → combosFrom k es n picked ≡ take (k .count) picked ∷ []
+  unfolding combosFrom under combinations
+  combos-leaf q =
+      let e : drop n (take (k .count) (k .rights)) ≡ [] =
+      drop-of-length-le (take (k .count) (k .rights)) {i = n} (omega (arith, length-take (k .count) (k .rights))) in
+      rw (e, append-nil, q)
+
+  -- the combinations of the right symbols after n
+  abbrev pub later : List (List ℕ)
+  later = combinations (map (candidates es) (drop (suc n) (take (k .count) (k .rights))))
+
+  pub combos-level : n < k .count → k .count ≤ length (k .rights)
+      → combosFrom k es n picked ≡ between es (getD (k .rights) n 0) (take n picked) later 0 (length es)
+  unfolding combosFrom combinations between candidates
+  combos-level h l =
+      let e = drop-cons (take (k .count) (k .rights)) n 0 (omega (arith, length-take (k .count) (k .rights))) in
+      rw (e, getD-take (k .count) (k .rights) n 0 h)
+
+  -- the number e is picked
+  pub combos-next : (e : ℕ) → n < length picked
+      → combosFrom k es (n + 1) (set picked n e) ≡ under (take n picked ++ (e ∷ [])) later
+  unfolding combosFrom
+  combos-next e l = rw (add-one, take-suc-set picked n e l)
+
+-- ---- a right symbol with no entry leaves no combination
+
+false≢true : false ≡ true → ⊥
+false≢true h =
+    let z : _≡_ {A = ℕ} 0 1 = cc in
+    omega arith
+
+none-of : (a b : Bool) → (a || b) ≡ false → (a ≡ false) × (b ≡ false)
+none-of true b h = absurd (false≢true (sym h))
+none-of false b h = (refl, h)
+
+prefixed-none : (xs : List ℕ) → prefixed xs [] ≡ []
+unfolding prefixed
+prefixed-none [] = refl
+prefixed-none (x ∷ xs) = prefixed-none xs
+
+combinations-none : (xss : List (List ℕ)) (j : ℕ) → j < length xss → getD xss j [] ≡ [] → combinations xss ≡ []
+unfolding combinations prefixed
+combinations-none [] j l h = absurd (omega arith)
+combinations-none (xs ∷ xss) zero l h = rw h
+combinations-none (xs ∷ xss) (suc j) l h = rw (combinations-none xss j (omega arith) h, prefixed-none xs)
+
+module _ (σ : Slices) (first y : ℕ) where
+  keep-none : (n : ℕ) → n ≤ first → occursIn (σ .symbols) y n ≡ false
+      → keep (λ i. eqb (entry (entriesTo σ first) i .symbol) y) (upFrom 0 n) ≡ []
+  unfolding occursIn keep upFrom entryAt
+  keep-none zero l h = refl
+  keep-none (suc n) l h =
+      let w = none-of (eqb (getD (σ .symbols) n 0) y) (occursIn (σ .symbols) y n) h in
+      let f : ℕ → Bool = λ i. eqb (entry (entriesTo σ first) i .symbol) y in
+      let e : f n ≡ false = ap (λ (x : Entry). eqb (x .symbol) y) (entry-at σ first n l) ∙ w .0 in
+      ap (keep f) (ap (upFrom 0) (sym (add-one n)) ∙ up-split 0 n 1 ∙ ap (λ (i : ℕ). upFrom 0 n ++ upFrom i 1) (zero-add n))
+      ∙ keep-append f (upFrom 0 n) (n ∷ [])
+      ∙ rw (keep-none n (omega arith) (w .1), e)
+
+  candidates-none : occursIn (σ .symbols) y first ≡ false → candidates (entriesTo σ first) y ≡ []
+  unfolding candidates
+  candidates-none h = rw (length-entries σ first) (keep-none first (omega arith) h)
+
+Lacks : List ℕ → List ℕ → ℕ → ℕ → Type 0
+Lacks symbols rights first n = (j : ℕ) × (j < n) × (occursIn symbols (getD rights j 0) first ≡ false)
+
+lacking : (symbols rights : List ℕ) (first n : ℕ) → allIn symbols rights first n ≡ false → Lacks symbols rights first n
+unfolding allIn both Lacks
+lacking symbols rights first zero h = absurd (false≢true (sym h))
+lacking symbols rights first (suc n) h = go (occursIn symbols (getD rights n 0) first) refl h (lacking symbols rights first n)
+  where
+    go : (b : Bool) → occursIn symbols (getD rights n 0) first ≡ b → both b (allIn symbols rights first n) ≡ false
+        → (allIn symbols rights first n ≡ false → Lacks symbols rights first n)
+        → Lacks symbols rights first (suc n)
+    go true e q more = let w = more q in (w .0, omega (arith, w .1), w .2)
+    go false e q more = (n, omega arith, e)
+
+pub combos-none : (k : Task) (σ : Slices) (picked : List ℕ) → k .count ≤ length (k .rights)
+    → allIn (σ .symbols) (k .rights) (k .first) (k .count) ≡ false → combosFrom k (entriesTo σ (k .first)) 0 picked ≡ []
+unfolding combosFrom under Lacks
+combos-none k σ picked l h =
+    let w = lacking (σ .symbols) (k .rights) (k .first) (k .count) h in
+    let es = entriesTo σ (k .first) in
+    let rs = take (k .count) (k .rights) in
+    let long : length rs ≡ k .count = omega (arith, length-take (k .count) (k .rights)) in
+    let here : getD (map (candidates es) rs) (w .0) [] ≡ [] =
+    at-map (candidates es) [] rs (w .0) (omega (arith, w .1, long))
+    ∙ ap (candidates es) (getD-take (k .count) (k .rights) (w .0) 0 (w .1))
+    ∙ candidates-none σ (k .first) (getD (k .rights) (w .0) 0) (w .2) in
+    rw (combinations-none (map (candidates es) rs) (w .0) (omega (arith, w .1, long, length-map rs (candidates es))) here)

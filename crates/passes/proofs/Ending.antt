@@ -1,0 +1,137 @@
+-- The passes: from the state that was reached to the outcome, and what it tells. Assumes nothing.
+use mathlib.Core.Path.{_≡_, refl, sym, ap, _∙_}
+use mathlib.Core.Bool.{Bool, true, false, cond}
+use mathlib.Core.List.{List, map}
+use Prim.Native.Nat.{ℕ, suc, _+_, _-_, _*_, _/_, _≤_, _<_, min}
+use native.Mathlib.Nat.{le-refl, le-trans, sub-zero}
+use native.Mathlib.Numerals.{add-one}
+use native.Mathlib.Omega.{arith}
+use lib.Dec.{eqb}
+use lib.ListN.{length, getD}
+use borrow.Author.Tests.{eq-eqb, ne-eqb}
+use Rattle.rules.specs.declared.Answer.{Answer}
+use Rattle.rules.specs.declared.Answer.the-variants.{Noncircular}
+use Rattle.rules.specs.declared.Entry.{Entry}
+use Rattle.rules.specs.declared.Report.{Report}
+use Rattle.passes.specs.declared.Run.{Run}
+use Rattle.rules.specs.Passes.{System, State, Ran, going, stopped, andThen, noRoot, pass, Outcome, outcome, after, empty, passesFrom, passes}
+use Rattle.passes.specs.Slices.{Slices, roomOf, Tells}
+use Rattle.passes.specs.Follow.{entryAt, entriesTo, stateOf, ranBy, ranOf, Kept, Follows, Roomy}
+use Rattle.passes.proofs.Entries.{length-entries, field-taken, kids-taken, written-over}
+use Rattle.passes.proofs.Following.{kept-same, kept-then, going-by, stopped-by}
+use Rattle.passes.proofs.Passing.{through}
+
+-- ---- the room of the slices
+
+pub roomy-start : (room : ℕ) (σ : Slices) (r : Run) → room ≡ roomOf σ → r .stored ≡ 0 → Roomy room σ r
+roomy-start room σ r h e =
+    record {
+      symbols = omega arith;
+      graphs = omega arith;
+      productions = omega arith;
+      kids = omega arith;
+      stored = omega arith;
+      small = omega arith;
+    }
+
+-- ---- what an outcome tells
+
+pub tells : (o : Outcome) (room limit : ℕ) (σ : Slices) (r : Run) (τ : Slices) (q : Run) (a : Answer) (root : List ℕ) (begun : ℕ)
+    → o ≡ outcome a root (stateOf limit τ q) begun → Kept room σ r τ q → Roomy room τ q
+    → Tells o σ (record { answer = a; closures = limit - q .left; entries = q .stored; passes = begun; root = root }) τ
+unfolding entryAt
+tells o room limit σ r τ q a root begun e k h =
+    rw e
+    (record {
+      report =
+          ap (λ (n : ℕ). record { answer = a; closures = limit - q .left; entries = n; passes = begun; root = root })
+          (sym (length-entries τ (q .stored)));
+      symbols =
+          written-over (q .stored) _ (σ .symbols) (τ .symbols)
+          (field-taken τ (λ x. x .symbol) (τ .symbols) (λ i. refl) (q .stored) (omega (arith, h .stored, h .symbols)))
+          (omega (arith, h .stored, h .symbols)) (k .symbols);
+      graphs =
+          written-over (q .stored) _ (σ .graphs) (τ .graphs)
+          (field-taken τ (λ x. x .graph) (τ .graphs) (λ i. refl) (q .stored) (omega (arith, h .stored, h .graphs)))
+          (omega (arith, h .stored, h .graphs)) (k .graphs);
+      productions =
+          written-over (q .stored) _ (σ .productions) (τ .productions)
+          (field-taken τ (λ x. x .production) (τ .productions) (λ i. refl) (q .stored) (omega (arith, h .stored, h .productions)))
+          (omega (arith, h .stored, h .productions)) (k .productions);
+      kids =
+          written-over (7 * q .stored) _ (σ .kids) (τ .kids) (kids-taken τ (q .stored) (omega (arith, h .stored, h .kids)))
+          (omega (arith, h .stored, h .kids)) (k .kids);
+    })
+
+-- ---- a pass more, or the end
+
+-- `begun` passes have begun, each of which stored an entry; the passes go on from here to their outcome
+pub record Reached (W : System) (limit room : ℕ) (ps : List ℕ) (σ₀ : Slices) (r₀ : Run) (begun : ℕ) (σ : Slices) (r : Run) : Type 0 where
+  pub going : r .going ≡ true
+  pub kept : Kept room σ₀ r₀ σ r
+  pub few : begun ≤ r .stored
+  pub same : passesFrom W limit room (suc room - begun) ps begun (stateOf limit σ r) ≡ passes W limit room ps
+
+module _ (W : System) (limit room : ℕ) (ps : List ℕ) (σ₀ : Slices) (r₀ : Run) (start : r₀ .left ≡ limit) where
+  pub reached-start : r₀ .stored ≡ 0 → r₀ .going ≡ true → Reached W limit room ps σ₀ r₀ 0 σ₀ r₀
+  unfolding passes entriesTo
+  reached-start e g =
+      let none : limit - r₀ .left ≡ 0 = omega arith in
+      record {
+        going = g;
+        kept = kept-same room σ₀ r₀ r₀ refl (le-refl _) (omega arith);
+        few = omega arith;
+        same = rw (e, none, sub-zero);
+      }
+
+  module _ (begun : ℕ) (σ : Slices) (r : Run) (reached : Reached W limit room ps σ₀ r₀ begun σ r) (τ : Slices) (q : Run)
+      (f : Follows room (through W room ps) σ r τ q) where
+    ran : ranOf limit τ q ≡ pass W limit room ps (stateOf limit σ r)
+    ran =
+        f .ran limit (omega (arith, reached .kept .left))
+        ∙ ap (λ (x : Ran). andThen x (through W room ps limit)) (going-by (r .going) (r .answer) (r .root) (stateOf limit σ r) (reached .going))
+
+    more : State → Outcome
+    more = passesFrom W limit room (room - begun) ps (suc begun)
+
+    -- the outcome after this pass
+    next : (x : Ran) → ranOf limit τ q ≡ x → passes W limit room ps ≡ after (stateOf limit σ r) (suc begun) x more
+    unfolding passesFrom more
+    next x h =
+        let e : suc room - begun ≡ suc (room - begun) = omega (arith, reached .few, reached .kept .fits) in
+        sym (reached .same)
+        ∙ ap (λ (n : ℕ). passesFrom W limit room n ps begun (stateOf limit σ r)) e
+        ∙ ap (λ (y : Ran). after (stateOf limit σ r) (suc begun) y (passesFrom W limit room (room - begun) ps (suc begun))) (sym ran ∙ h)
+
+    -- the run has stopped
+    pub ends-stop : q .going ≡ false → passes W limit room ps ≡ outcome (q .answer) (q .root) (stateOf limit τ q) (begun + 1)
+    ends-stop g =
+        rw add-one
+        (next (stopped (q .answer) (q .root) (stateOf limit τ q)) (stopped-by (q .going) (q .answer) (q .root) (stateOf limit τ q) g))
+
+    module _ (g : q .going ≡ true) where
+      going-on : ranOf limit τ q ≡ going (stateOf limit τ q)
+      going-on = going-by (q .going) (q .answer) (q .root) (stateOf limit τ q) g
+
+      -- nothing was stored
+      pub ends-done : q .stored ≡ r .stored → passes W limit room ps ≡ outcome Noncircular noRoot (stateOf limit τ q) (begun + 1)
+      ends-done e =
+          rw add-one
+          (next (going (stateOf limit τ q)) going-on
+          ∙ rw (length-entries τ (q .stored), length-entries σ (r .stored), eq-eqb _ _ e))
+
+      -- something was
+      pub reached-more : (q .stored ≡ r .stored → ⊥) → Reached W limit room ps σ₀ r₀ (begun + 1) τ q
+      unfolding more
+      reached-more ne =
+          let e : suc room - (begun + 1) ≡ room - begun = omega arith in
+          record {
+            going = g;
+            kept = kept-then room σ₀ r₀ σ r (reached .kept) τ q (f .kept);
+            few = omega (arith, ne, f .kept .more, reached .few);
+            same =
+                rw (e, add-one)
+                (sym
+                (next (going (stateOf limit τ q)) going-on
+                ∙ rw (length-entries τ (q .stored), length-entries σ (r .stored), ne-eqb _ _ ne)));
+          }

@@ -1,0 +1,47 @@
+-- A pass: one production after the other. Assumes nothing.
+use mathlib.Core.Path.{_≡_, refl, sym, ap, _∙_}
+use mathlib.Core.Bool.{false}
+use mathlib.Core.List.{List, [], _∷_, _++_}
+use Prim.Native.Nat.{ℕ, _+_, _-_, _≤_}
+use native.Mathlib.Nat.{zero-add}
+use native.Mathlib.Omega.{arith}
+use Rattle.numbers.specs.Lists.{upFrom}
+use Rattle.passes.specs.declared.Run.{Run}
+use Rattle.rules.specs.Passes.{System, State, Ran, going, turn, pass}
+use Rattle.passes.specs.Slices.{Slices}
+use Rattle.passes.specs.Follow.{Follows}
+use Rattle.passes.proofs.Combinations.{up-split}
+use Rattle.passes.proofs.Following.{follows-nothing, follows-still, follows-then, follows-same, pass-append, pass-one, pass-none}
+
+up-more : (n m : ℕ) → upFrom 0 n ++ upFrom n m ≡ upFrom 0 (n + m)
+up-more n m = sym (up-split 0 n m ∙ ap (λ (i : ℕ). upFrom 0 n ++ upFrom i m) (zero-add n))
+
+module _ (W : System) (room : ℕ) where
+  -- the rule of a pass over some productions
+  abbrev pub through : List ℕ → ℕ → State → Ran
+  through ps limit = pass W limit room ps
+
+  through-then : (σ τ υ : Slices) (r q p : Run) (a b c : List ℕ) → a ++ b ≡ c
+      → Follows room (through a) σ r τ q → Follows room (through b) τ q υ p → Follows room (through c) σ r υ p
+  through-then σ τ υ r q p a b c e f g =
+      follows-same room σ r _ (through c) υ p (follows-then room σ r (through a) (through b) τ q f υ p g)
+      (λ limit s. pass-append W limit room a b s ∙ ap (λ (l : List ℕ). through l limit s) e)
+
+  pub pass-start : (σ : Slices) (r : Run) → r .stored ≤ room → Follows room (through (upFrom 0 0)) σ r σ r
+  unfolding upFrom
+  pass-start σ r h =
+      follows-same room σ r (λ limit. going) (through []) σ r (follows-nothing room σ r h) (λ limit. pass-none W limit room)
+
+  module _ (σ₀ : Slices) (r₀ : Run) (σ : Slices) (r : Run) (i : ℕ) (f : Follows room (through (upFrom 0 i)) σ₀ r₀ σ r) where
+    pub pass-more : (τ : Slices) (q : Run) → Follows room (λ limit. turn W limit room i) σ r τ q → Follows room (through (upFrom 0 (i + 1))) σ₀ r₀ τ q
+    unfolding upFrom
+    pass-more τ q g =
+        through-then σ₀ σ τ r₀ r q (upFrom 0 i) (i ∷ []) (upFrom 0 (i + 1)) (up-more i 1) f
+        (follows-same room σ r (λ limit. turn W limit room i) (through (i ∷ [])) τ q g (λ limit s. pass-one W limit room i s))
+
+    -- the run has stopped: the other productions change nothing
+    pub pass-stop : (n : ℕ) → i ≤ n → r .going ≡ false → Follows room (through (upFrom 0 n)) σ₀ r₀ σ r
+    pass-stop n l g =
+        let e : i + (n - i) ≡ n = omega arith in
+        through-then σ₀ σ σ r₀ r r (upFrom 0 i) (upFrom i (n - i)) (upFrom 0 n) (up-more i (n - i) ∙ ap (upFrom 0) e) f
+        (follows-still room σ r (through (upFrom i (n - i))) (f .kept .fits) g)

@@ -1,0 +1,74 @@
+-- `passes::closure` meets its contract. Assumes nothing.
+use mathlib.Core.Path.{_≡_, refl, sym, ap, _∙_}
+use mathlib.Core.Bool.{Bool}
+use mathlib.Core.List.{List, map}
+use Prim.Native.Nat.{ℕ, suc, _≤_, _+_, _*_}
+use native.Mathlib.Numerals.{add-one}
+use borrow.Author.Needs.{needs}
+use native.Mathlib.Omega.{arith}
+use lib.ListN.{length, getD, take, length-map, length-take}
+use Rattle.graph.specs.Rows.{placedFrom, closedFirst, closure, hasCircle, rootGraph}
+use Rattle.graph.proofs.Parts.{take-closed, root-closed}
+use Rattle.passes.specs.declared.Task.{Task}
+use Rattle.passes.specs.Follow.{systemBy, graphsOf}
+use Rattle.passes.proofs.closure.Statement.{statement}
+use Rattle.passes.proofs.closure.Tie as tie
+
+-- the first rows of the closed table are the closure of the compound graph's rows
+module _ (k : Task) (graphs picked : List ℕ) (few : k .count ≤ length picked) (table closed : List ℕ)
+    (placed : table ≡ placedFrom 8 1 (graphsOf graphs k picked) (k .rows)) (done : closed ≡ closedFirst (8 * (k .count + 1)) table) where
+  abbrev gs : List ℕ
+  gs = graphsOf graphs k picked
+
+  nodes : 8 * (k .count + 1) ≡ 8 * suc (length gs)
+  nodes = omega (arith, length-map (take (k .count) picked) (λ i. getD graphs i 0), length-take (k .count) picked)
+
+  closed-circle : hasCircle (take (8 * (k .count + 1)) closed) ≡ systemBy k .circle (k .number) gs
+  unfolding systemBy
+  closed-circle =
+      ap (λ (l : List ℕ). hasCircle (take (8 * (k .count + 1)) l)) done
+      ∙ ap hasCircle (take-closed (8 * (k .count + 1)) table)
+      ∙ rw (nodes, placed)
+
+  closed-root : rootGraph 8 closed ≡ systemBy k .graph (k .number) gs
+  unfolding systemBy
+  closed-root =
+      ap (rootGraph 8) done ∙ root-closed 8 (8 * (k .count + 1)) table (omega arith) ∙ rw (nodes, placed)
+
+add-occurrences : tie.Need-add-occurrences
+add-occurrences c = search needs
+
+compound-requires : tie.Need-compound-requires
+compound-requires c κs = search needs
+
+close-requires : tie.Need-close-requires
+close-requires c κs = search needs
+
+has-circle-requires : tie.Need-has-circle-requires
+has-circle-requires c κs = search needs
+
+root-graph-requires : tie.Need-root-graph-requires
+root-graph-requires c κs = search needs
+
+returns : tie.Need-returns
+returns c =
+    let s = c .before .before .before .before .before .before in
+    let table = c .before .before .before .compound in
+    let closed = c .before .before .close in
+    let few : s .args .task .count ≤ length (s .args .picked) = omega (arith, s .pre .0) in (
+      c .before .has-circle .ensures
+          ∙ closed-circle (s .args .task) (s .args .graphs .now) (s .args .picked) few (table .result) (closed .result) (table .ensures) (closed .ensures),
+      c .root-graph .ensures
+          ∙ closed-root (s .args .task) (s .args .graphs .now) (s .args .picked) few (table .result) (closed .result) (table .ensures) (closed .ensures),
+    )
+
+pub closure-spec : {M : Type 1} → statement M
+closure-spec =
+    tie.close
+    (tie.spec
+    add-occurrences
+    compound-requires
+    close-requires
+    has-circle-requires
+    root-graph-requires
+    returns)

@@ -1,0 +1,164 @@
+-- The passes over lent slices, where the closures that are left are counted down: what the slices and a run say in the words of the
+-- rules, and what it is to follow a rule. Assumes nothing.
+use mathlib.Core.Bool.{Bool, true, false, _||_}
+use mathlib.Core.List.{List, [], _∷_, _++_, map}
+use mathlib.Core.Path.{_≡_}
+use Prim.Native.Nat.{ℕ, zero, suc, _-_, _*_, _≤_, _<_}
+use lib.Dec.{eqb}
+use lib.ListN.{length, getD, take, drop, replicate}
+use Rattle.numbers.specs.Lists.{both}
+use Rattle.grammar.specs.Grammar.{production, edgesOf}
+use Rattle.grammar.specs.Table.{grammarOf}
+use Rattle.graph.specs.Rows.{own, placedFrom, closure, hasCircle, rootGraph}
+use Rattle.rules.specs.declared.Answer.{Answer}
+use Rattle.rules.specs.declared.Entry.{Entry}
+use Rattle.passes.specs.declared.Run.{Run}
+use Rattle.passes.specs.declared.Task.{Task}
+use Rattle.passes.specs.declared.Verdict.{Verdict}
+use Rattle.passes.specs.declared.Verdict.the-variants.{Steps, Circle, Known, Full, New}
+use Rattle.rules.specs.Passes.{System, State, Ran, going, stopped, andThen, seven, candidates, combinations}
+use Rattle.passes.specs.Slices.{Slices}
+
+-- ---- the slices and a run, in the words of the rules
+
+unfoldable pub entryAt : Slices → ℕ → Entry
+entryAt σ i =
+    record {
+      symbol = getD (σ .symbols) i 0;
+      graph = getD (σ .graphs) i 0;
+      production = getD (σ .productions) i 0;
+      kids = take 7 (drop (7 * i) (σ .kids));
+    }
+
+-- the first n entries
+unfoldable pub entriesTo : Slices → ℕ → List Entry
+entriesTo σ zero = []
+entriesTo σ (suc n) = entriesTo σ n ++ (entryAt σ n ∷ [])
+
+-- of `limit` closures those that are not left have been made
+abbrev pub stateOf : ℕ → Slices → Run → State
+stateOf limit σ r = record { entries = entriesTo σ (r .stored); made = limit - r .left }
+
+abbrev pub ranBy : Bool → Answer → List ℕ → State → Ran
+ranBy true a root s = going s
+ranBy false a root s = stopped a root s
+
+abbrev pub ranOf : ℕ → Slices → Run → Ran
+ranOf limit σ r = ranBy (r .going) (r .answer) (r .root) (stateOf limit σ r)
+
+-- ---- what it is to follow a rule
+
+-- as long as before, and nothing is changed from place n on
+pub record Beyond (n : ℕ) (before after : List ℕ) : Type 0 where
+  pub long : length after ≡ length before
+  pub rest : drop n after ≡ drop n before
+
+-- entries are only added, within the room
+pub record Kept (room : ℕ) (σ : Slices) (r : Run) (τ : Slices) (q : Run) : Type 0 where
+  pub symbols : Beyond (q .stored) (σ .symbols) (τ .symbols)
+  pub graphs : Beyond (q .stored) (σ .graphs) (τ .graphs)
+  pub productions : Beyond (q .stored) (σ .productions) (τ .productions)
+  pub kids : Beyond (7 * q .stored) (σ .kids) (τ .kids)
+  pub stay : (n : ℕ) → n ≤ r .stored → entriesTo τ n ≡ entriesTo σ n
+  pub more : r .stored ≤ q .stored
+  pub fits : q .stored ≤ room
+  pub left : q .left ≤ r .left
+
+-- From σ and r to τ and q the slices and the run follow a rule. This is the one law between the rules, which count closures up to a
+-- limit, and the code, which counts those that are left: it holds for each limit that leaves as many.
+pub record Follows (room : ℕ) (rule : ℕ → State → Ran) (σ : Slices) (r : Run) (τ : Slices) (q : Run) : Type 0 where
+  pub kept : Kept room σ r τ q
+  pub ran : (limit : ℕ) → r .left ≤ limit → ranOf limit τ q ≡ andThen (ranOf limit σ r) (rule limit)
+
+-- the room holds what is stored
+pub record Roomy (room : ℕ) (σ : Slices) (r : Run) : Type 0 where
+  pub symbols : room ≤ length (σ .symbols)
+  pub graphs : room ≤ length (σ .graphs)
+  pub productions : room ≤ length (σ .productions)
+  pub kids : 7 * room ≤ length (σ .kids)
+  pub stored : r .stored ≤ room
+  pub small : room ≤ 4096
+
+-- ---- one production's turn
+
+-- the closed rows over the graphs gs, where `rows` are a production's own
+abbrev pub closedOver : List ℕ → List ℕ → List ℕ
+closedOver rows gs = closure (take (8 * suc (length gs)) (placedFrom 8 1 gs rows))
+
+-- a task as a system, the same at each production
+unfoldable pub systemBy : Task → System
+systemBy k =
+    record {
+      left = λ p. k .symbol;
+      rights = λ p. take (k .count) (k .rights);
+      graph = λ p gs. rootGraph 8 (closedOver (k .rows) gs);
+      circle = λ p gs. hasCircle (closedOver (k .rows) gs);
+    }
+
+-- the turn of the production p of a table, where `first` entries are stored
+unfoldable pub taskOf : List ℕ → ℕ → ℕ → ℕ → Task
+taskOf bs p room first =
+    record {
+      number = p;
+      symbol = production (grammarOf bs) p .left;
+      count = production (grammarOf bs) p .n;
+      rights = production (grammarOf bs) p .slots;
+      rows = own 8 (edgesOf (grammarOf bs) p) (replicate 64 0);
+      room = room;
+      first = first;
+    }
+
+-- the combinations that begin as the first n of the picked numbers do
+unfoldable pub under : List ℕ → List (List ℕ) → List (List ℕ)
+under chosen cs = map (λ c. chosen ++ c) cs
+
+unfoldable pub combosFrom : Task → List Entry → ℕ → List ℕ → List (List ℕ)
+combosFrom k es n picked = under (take n picked) (combinations (map (candidates es) (drop n (take (k .count) (k .rights)))))
+
+-- a turn goes on: the room holds what is stored, to which nothing was lost since it began
+pub record Ready (k : Task) (σ : Slices) (r : Run) : Type 0 where
+  pub roomy : Roomy (k .room) σ r
+  pub first : k .first ≤ r .stored
+  pub few : k .count ≤ 7
+  pub slots : length (k .rights) ≡ 7
+  pub going : r .going ≡ true
+
+-- the first n slots hold numbers of entries with which the turn began, the others 0
+pub record Picked (k : Task) (n : ℕ) (picked : List ℕ) : Type 0 where
+  pub slots : picked ≡ seven (take n picked)
+  pub below : (i : ℕ) → i < n → getD picked i 0 < k .first
+
+-- ---- one combination
+
+-- the symbol with the graph is among the first n entries
+unfoldable pub seenIn : List ℕ → List ℕ → ℕ → ℕ → ℕ → Bool
+seenIn symbols graphs y g zero = false
+seenIn symbols graphs y g (suc n) =
+    both (eqb (getD symbols n 0) y) (eqb (getD graphs n 0) g) || seenIn symbols graphs y g n
+
+-- some of the first n entries has the symbol
+unfoldable pub occursIn : List ℕ → ℕ → ℕ → Bool
+occursIn symbols y zero = false
+occursIn symbols y (suc n) = eqb (getD symbols n 0) y || occursIn symbols y n
+
+-- each of the first n right symbols has one among the first `first` entries
+unfoldable pub allIn : List ℕ → List ℕ → ℕ → ℕ → Bool
+allIn symbols rights first zero = true
+allIn symbols rights first (suc n) = both (occursIn symbols (getD rights n 0) first) (allIn symbols rights first n)
+
+abbrev pub graphsOf : List ℕ → Task → List ℕ → List ℕ
+graphsOf graphs k picked = map (λ i. getD graphs i 0) (take (k .count) picked)
+
+-- what is to be done with a combination, by the four tests of the six steps
+unfoldable pub verdict : Bool → Bool → Bool → Bool → ℕ → Verdict
+verdict true circle known full graph = Steps
+verdict false true known full graph = Circle
+verdict false false true full graph = Known
+verdict false false false true graph = Full
+verdict false false false false graph = New graph
+
+unfoldable pub judged : Task → List ℕ → List ℕ → Run → List ℕ → Verdict
+judged k symbols graphs r picked =
+    verdict (eqb (r .left) 0) (systemBy k .circle (k .number) (graphsOf graphs k picked))
+    (seenIn symbols graphs (k .symbol) (systemBy k .graph (k .number) (graphsOf graphs k picked)) (r .stored))
+    (eqb (r .stored) (k .room)) (systemBy k .graph (k .number) (graphsOf graphs k picked))
