@@ -1,0 +1,77 @@
+-- No line has more than 128 bytes, where the numbers are those of their types. Assumes nothing.
+use mathlib.Core.Path.{_≡_, refl}
+use mathlib.Core.List.{List, [], _∷_}
+use Prim.Native.Nat.{ℕ, zero, suc, _*_, _^_, _≤_, _<_, zero-le}
+use native.Mathlib.Omega.{arith}
+use lib.ListN.{length, getD, take, length-append}
+use Rattle.rules.specs.declared.Answer.{Answer}
+use Rattle.rules.specs.declared.Answer.the-variants.{Noncircular, Circular, Refused, OutOfSteps, OutOfRoom}
+use Rattle.rules.specs.declared.Report.{Report}
+use Rattle.lines.specs.Lines.{decimal, counts, answered, firstLine, spaced, entryLine, rootLine}
+use Rattle.lines.proofs.Decimal.{at-most, length-decimal}
+
+-- at most five digits for 16 bits, and at most twenty for 64
+short : (n : ℕ) → n < 2 ^ 16 → length (decimal n) ≤ 5
+short n h = rw (length-decimal n) (at-most n 4 (omega arith))
+
+long : (n : ℕ) → n < 2 ^ 64 → length (decimal n) ≤ 20
+long n h = rw (length-decimal n) (at-most n 19 (omega arith))
+
+-- each entry number takes a blank and at most five digits
+spaced-short : (n : ℕ) (ks : List ℕ) → ((i : ℕ) → getD ks i 0 < 2 ^ 16) → length (spaced (take n ks)) ≤ 6 * length ks
+unfolding spaced
+spaced-short zero ks h = zero-le
+spaced-short (suc n) [] h = zero-le
+spaced-short (suc n) (k ∷ ks) h =
+    let one = short k (h 0) in
+    let rest = spaced-short n ks (λ i. h (suc i)) in
+    simp length-append (omega arith)
+
+counts-short : (closures entries passes : ℕ) → closures < 2 ^ 32 → entries < 2 ^ 16 → passes < 2 ^ 16 → length (counts closures entries passes) ≤ 58
+unfolding counts
+counts-short closures entries passes hc he hp =
+    let c = long closures (omega arith) in
+    let e = short entries he in
+    let p = short passes hp in
+    simp length-append (omega arith)
+
+pub first-short :
+    (report : Report) →
+    ((k : ℕ) → report .answer ≡ Refused k → k < 2 ^ 8) →
+    report .closures < 2 ^ 32 →
+    report .entries < 2 ^ 16 →
+    report .passes < 2 ^ 16 →
+    length (firstLine report) ≤ 128
+unfolding firstLine
+first-short report hk hc he hp = by (report .answer) _ hk (counts-short _ _ _ hc he hp)
+  where
+    by : (a : Answer) (numbers : List ℕ) → ((k : ℕ) → a ≡ Refused k → k < 2 ^ 8) → length numbers ≤ 58 → length (answered a numbers) ≤ 128
+    by Noncircular numbers hk h = simp length-append (omega arith)
+    by (Circular p) numbers hk h = simp length-append (omega arith)
+    by (Refused k) numbers hk h = let few = short k (let small = hk k refl in omega arith) in simp length-append (omega arith)
+    by OutOfSteps numbers hk h = simp length-append (omega arith)
+    by OutOfRoom numbers hk h = simp length-append (omega arith)
+
+module _ (kids : List ℕ) (n : ℕ) (seven : length kids ≡ 7) (h : (i : ℕ) → getD kids i 0 < 2 ^ 16) where
+  pub entry-short :
+      (number symbol production graph : ℕ) →
+      number < 2 ^ 16 →
+      symbol < 2 ^ 16 →
+      production < 2 ^ 16 →
+      graph < 2 ^ 64 →
+      length (entryLine number symbol production (take n kids) graph) ≤ 128
+  unfolding entryLine
+  entry-short number symbol production graph hn hs hp hg =
+      let a = short number hn in
+      let b = short symbol hs in
+      let c = short production hp in
+      let d = long graph hg in
+      let k = spaced-short n kids h in
+      simp length-append (omega arith)
+
+  pub root-short : (production : ℕ) → production < 2 ^ 16 → length (rootLine production (take n kids)) ≤ 128
+  unfolding rootLine
+  root-short production hp =
+      let a = short production hp in
+      let k = spaced-short n kids h in
+      simp length-append (omega arith)

@@ -1,0 +1,3 @@
+-- The lines that are printed, and how the code makes one.
+pub mod Lines
+pub mod Pieces

@@ -1,0 +1,124 @@
+-- The lines that `circ` prints, as bytes. Assumes nothing.
+use mathlib.Core.Path.{_≡_}
+use mathlib.Core.Bool.{Bool, true, false, cond}
+use mathlib.Core.List.{List, [], _∷_, _++_}
+use Prim.Native.Char.{code}
+use Prim.Native.String.{String, [] as []ˢ, _∷_ as _∷ˢ_}
+use Prim.Native.Nat.{ℕ, zero, suc, _+_, _/_}
+use lib.Dec.{leb, ltb}
+use lib.ListN.{length, take, drop}
+use Rattle.io.specs.Digits.{digits}
+use Rattle.rules.specs.declared.Answer.{Answer}
+use Rattle.rules.specs.declared.Answer.the-variants.{Noncircular, Circular, Refused, OutOfSteps, OutOfRoom}
+use Rattle.rules.specs.declared.Report.{Report}
+use Rattle.rules.specs.declared.Entry.{Entry}
+use Rattle.rules.specs.Passes.{Outcome}
+
+-- ---- text
+
+abbrev pub ascii : String → List ℕ
+ascii []ˢ = []
+ascii (c ∷ˢ s) = code c ∷ ascii s
+
+-- one digit below ten, else one more than a tenth of the number has
+abbrev pub oneOr : Bool → (ℕ → ℕ) → ℕ → ℕ
+oneOr true more n = 1
+oneOr false more n = suc (more (n / 10))
+
+unfoldable pub placesBy : ℕ → ℕ → ℕ
+placesBy zero n = 1
+placesBy (suc fuel) n = oneOr (ltb n 10) (placesBy fuel) n
+
+-- how many decimal digits a number has; it cannot be divided by ten more often than it says itself
+unfoldable pub places : ℕ → ℕ
+places n = placesBy n n
+
+unfoldable pub decimal : ℕ → List ℕ
+decimal n = digits 10 (places n) n
+
+abbrev pub newline : List ℕ
+newline = ascii "\n"
+
+abbrev pub tagged : String → ℕ → List ℕ
+tagged tag n = ascii tag ++ decimal n
+
+-- ---- the lines
+
+-- the answer's word before the three numbers; a refusal stands alone, with its number
+abbrev pub answered : Answer → List ℕ → List ℕ
+answered Noncircular numbers = ascii "noncircular" ++ numbers
+answered (Circular p) numbers = ascii "circular" ++ numbers
+answered (Refused k) numbers = tagged "refused " k ++ newline
+answered OutOfSteps numbers = ascii "out-of-steps" ++ numbers
+answered OutOfRoom numbers = ascii "out-of-room" ++ numbers
+
+unfoldable pub counts : ℕ → ℕ → ℕ → List ℕ
+counts closures entries passes =
+    tagged " closures " closures ++ tagged " entries " entries ++ tagged " passes " passes ++ newline
+
+unfoldable pub firstLine : Report → List ℕ
+firstLine r = answered (r .answer) (counts (r .closures) (r .entries) (r .passes))
+
+-- each number after a blank
+unfoldable pub spaced : List ℕ → List ℕ
+spaced [] = []
+spaced (k ∷ ks) = tagged " " k ++ spaced ks
+
+abbrev pub kidsText : List ℕ → List ℕ
+kidsText kids = ascii " kids" ++ spaced kids
+
+unfoldable pub entryLine : ℕ → ℕ → ℕ → List ℕ → ℕ → List ℕ
+entryLine number symbol production kids graph =
+    tagged "entry " number
+    ++ tagged " symbol " symbol
+    ++ tagged " production " production
+    ++ kidsText kids
+    ++ tagged " graph " graph
+    ++ newline
+
+unfoldable pub rootLine : ℕ → List ℕ → List ℕ
+rootLine production kids = tagged "root production " production ++ kidsText kids ++ newline
+
+-- ---- what is printed
+
+-- the lines of the entries, numbered from i on; `n` says how many right symbols a production has, and only so many kids count
+unfoldable pub entryLines : (ℕ → ℕ) → ℕ → List Entry → List ℕ
+entryLines n i [] = []
+entryLines n i (e ∷ es) =
+    entryLine i (e .symbol) (e .production) (take (n (e .production)) (e .kids)) (e .graph) ++ entryLines n (suc i) es
+
+-- what follows the first line
+unfoldable pub rest : Answer → List ℕ → (ℕ → List ℕ) → List ℕ
+rest Noncircular entries root = entries
+rest (Circular p) entries root = entries ++ root p
+rest (Refused k) entries root = []
+rest OutOfSteps entries root = entries
+rest OutOfRoom entries root = entries
+
+unfoldable pub printed : (ℕ → ℕ) → Outcome → List ℕ
+printed n o =
+    firstLine (o .report)
+    ++ rest (o .report .answer) (entryLines n 0 (o .entries)) (λ p. rootLine p (take (n p) (o .report .root)))
+
+-- ---- a line in a lent buffer
+
+abbrev pub fits : List ℕ → ℕ → List ℕ → Bool
+fits line at old = leb (at + length line) (length old)
+
+-- the buffer with the line from `at` on where it fits, else as before
+unfoldable pub put : List ℕ → ℕ → List ℕ → List ℕ
+put line at old = cond (fits line at old) (take at old ++ line ++ drop (at + length line) old) old
+
+-- the place after the line where it fits, else `at`
+unfoldable pub next : List ℕ → ℕ → List ℕ → ℕ
+next line at old = cond (fits line at old) (at + length line) at
+
+-- what a function that puts a line promises of the buffer and of its result
+pub record Written (line : List ℕ) (at : ℕ) (old new : List ℕ) (r : ℕ) : Type 0 where
+  pub buffer : new ≡ put line at old
+  pub place : r ≡ next line at old
+
+-- to name this on an `unfolding` line is to open every rule
+unfoldable pub shown : Unit {0}
+unfolding placesBy places decimal counts firstLine spaced entryLine rootLine entryLines rest printed
+shown = tt
