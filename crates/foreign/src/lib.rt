@@ -3,7 +3,97 @@ ghost use mathlib.Core.Path.{_≡_};
 ghost use Prim.Native.Nat.{_*_};
 ghost use lib.ListN.{take, replicate};
 ghost use Rattle.grammar.specs.Table.{edgesIn};
+ghost use Rattle.grammar.specs.Refusal.{refusal};
 ghost use Rattle.graph.specs.Rows.{own, placed, closedFirst, hasCircle, rootGraph};
+ghost use Rattle.passes.specs.Slices.{slices};
+ghost use Rattle.foreign.specs.Flat.{flat, kind, root, TestedFlat};
+use grammar::Checked;
+use rules::Answer;
+use rules::Report;
+
+// The check of a table: 0, or the number of its refusal.
+#[no_mangle]
+pub extern "C" fn circ_check(table: &[u8]) -> u8
+    ensures { λ r. ⌜ r ≡ refusal 8 (now (table .entry)) ⌝ }
+{
+    let checked = grammar::check(table);
+    match checked {
+        Checked::Good => 0,
+        Checked::Refused(number) => number,
+    }
+}
+
+fn wide(x: u16) -> u32
+    ensures { λ r. ⌜ r ≡ x ⌝ }
+{
+    x as u32
+}
+
+fn kind_of(answer: Answer) -> u32
+    ensures { λ r. ⌜ r ≡ kind answer ⌝ }
+{
+    match answer {
+        Answer::Noncircular => 0,
+        Answer::Circular(_) => 10,
+        Answer::Refused(k) => k as u32,
+        Answer::OutOfSteps => 8,
+        Answer::OutOfRoom => 9,
+    }
+}
+
+fn root_of(answer: Answer) -> u32
+    ensures { λ r. ⌜ r ≡ root answer ⌝ }
+{
+    match answer {
+        Answer::Noncircular => 0,
+        Answer::Circular(p) => wide(p),
+        Answer::Refused(_) => 0,
+        Answer::OutOfSteps => 0,
+        Answer::OutOfRoom => 0,
+    }
+}
+
+fn flat_of(r: Report) -> [u32; 12]
+    ensures { λ out. ⌜ out ≡ flat r ⌝ }
+{
+    let answer = r.answer;
+    let kids = r.root;
+    [
+        kind_of(answer),
+        root_of(answer),
+        r.closures,
+        wide(r.entries),
+        wide(r.passes),
+        wide(kids[0]),
+        wide(kids[1]),
+        wide(kids[2]),
+        wide(kids[3]),
+        wide(kids[4]),
+        wide(kids[5]),
+        wide(kids[6]),
+    ]
+}
+
+// The circularity test over four lent slices; the report is left in twelve numbers.
+#[no_mangle]
+pub extern "C" fn circ_test(
+    table: &[u8],
+    limit: u32,
+    symbols: &mut [u16],
+    graphs: &mut [u64],
+    productions: &mut [u16],
+    kids: &mut [u16],
+    report: &mut [u32; 12],
+)
+    ensures { λ _. ⌜ TestedFlat (now (table .entry)) limit
+        (slices (now (symbols .entry)) (now (graphs .entry)) (now (productions .entry)) (now (kids .entry)))
+        (now (report .exit))
+        (slices (now (symbols .exit)) (now (graphs .exit)) (now (productions .exit)) (now (kids .exit))) ⌝ }
+{
+    let r = passes::test(table, limit, symbols, graphs, productions, kids);
+    let out = flat_of(r);
+    *report = out;
+}
 
 // The rows of a run of edge records.
 #[no_mangle]

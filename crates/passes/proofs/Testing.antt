@@ -61,14 +61,14 @@ refusal-small w bs =
 
 -- ---- by the answer
 
-checked-good : (n : ℕ) → checked n ≡ Good → n ≡ 0
+pub checked-good : (n : ℕ) → checked n ≡ Good → n ≡ 0
 unfolding checked
 checked-good zero h = refl
 checked-good (suc n) h =
     let z : _≡_ {A = ℕ} 0 1 = cc in
     absurd (omega arith)
 
-checked-stopped : (n k : ℕ) → checked n ≡ Stopped k → (n ≡ k) × (n ≡ 0 → ⊥)
+pub checked-stopped : (n k : ℕ) → checked n ≡ Stopped k → (n ≡ k) × (n ≡ 0 → ⊥)
 unfolding checked
 checked-stopped zero k h =
     let z : _≡_ {A = ℕ} 0 1 = cc in

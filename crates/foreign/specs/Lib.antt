@@ -1,0 +1,2 @@
+-- What the exported test promises.
+pub mod Flat
