@@ -2,6 +2,8 @@
 //! difference can be shown again alone.
 
 mod closures;
+mod tables;
+mod tests;
 
 use std::time::Instant;
 
@@ -12,7 +14,7 @@ fn main() {
         number(&words, 1),
         number(&words, 2),
     ) else {
-        eprintln!("compare KIND COUNT SEED, where KIND is closures");
+        eprintln!("compare KIND COUNT SEED, where KIND is closures, tables or tests");
         std::process::exit(2);
     };
     let began = Instant::now();
@@ -38,6 +40,8 @@ type Case = fn(u64) -> Result<(), String>;
 fn case_of(kind: &str) -> Option<Case> {
     match kind {
         "closures" => Some(closures::case),
+        "tables" => Some(tables::case),
+        "tests" => Some(tests::case),
         _ => None,
     }
 }

@@ -6,11 +6,125 @@ pub type Rows = [u64; 64];
 
 // A slice passes as its address and its length.
 extern "C" {
+    fn circ_check(table: *const u8, table_len: usize) -> u8;
+    #[allow(clippy::too_many_arguments)]
+    fn circ_test(
+        table: *const u8,
+        table_len: usize,
+        limit: u32,
+        symbols: *mut u16,
+        symbols_len: usize,
+        graphs: *mut u64,
+        graphs_len: usize,
+        productions: *mut u16,
+        productions_len: usize,
+        kids: *mut u16,
+        kids_len: usize,
+        report: *mut [u32; 12],
+    );
     fn circ_own_rows(run: *const u8, run_len: usize, rows: *mut Rows);
     fn circ_place(rows: *mut Rows, graph: u64, occurrence: usize);
     fn circ_close(rows: *mut Rows, occurrences: usize);
     fn circ_has_circle(rows: *const Rows, occurrences: usize) -> bool;
     fn circ_root_graph(rows: *const Rows) -> u64;
+}
+
+/// What the test answers.
+#[derive(Clone, Copy, Debug, PartialEq, Eq)]
+pub enum Answer {
+    Noncircular,
+    /// The production at the root of the shown tree.
+    Circular(u16),
+    /// A bad table: the number of its refusal, 1 to 7.
+    Refused(u8),
+    OutOfSteps,
+    OutOfRoom,
+}
+
+/// `root` holds the entry numbers of the root's right symbols where the answer is circular, and 0 elsewhere.
+#[derive(Clone, Copy, Debug, PartialEq, Eq)]
+pub struct Report {
+    pub answer: Answer,
+    pub closures: u32,
+    pub entries: u16,
+    pub passes: u16,
+    pub root: [u16; 7],
+}
+
+/// Room for entries: a number of each for an entry, and seven kids.
+#[derive(Clone, Debug, PartialEq, Eq)]
+pub struct Entries {
+    pub symbols: Vec<u16>,
+    pub graphs: Vec<u64>,
+    pub productions: Vec<u16>,
+    pub kids: Vec<u16>,
+}
+
+impl Entries {
+    pub fn new(room: usize) -> Entries {
+        Entries {
+            symbols: vec![0; room],
+            graphs: vec![0; room],
+            productions: vec![0; room],
+            kids: vec![0; 7 * room],
+        }
+    }
+}
+
+/// The check of a table: 0, or the number of its refusal.
+pub fn check(table: &[u8]) -> u8 {
+    // SAFETY: the slice is `table.len()` bytes long and is only read.
+    unsafe { circ_check(table.as_ptr(), table.len()) }
+}
+
+/// The circularity test with at most `limit` closures; the stored entries are left at the front of `entries`.
+pub fn test(table: &[u8], limit: u32, entries: &mut Entries) -> Report {
+    let mut numbers = [0; 12];
+    let Entries {
+        symbols,
+        graphs,
+        productions,
+        kids,
+    } = entries;
+    // SAFETY: each slice is given with its own length, and no two of them overlap.
+    unsafe {
+        circ_test(
+            table.as_ptr(),
+            table.len(),
+            limit,
+            symbols.as_mut_ptr(),
+            symbols.len(),
+            graphs.as_mut_ptr(),
+            graphs.len(),
+            productions.as_mut_ptr(),
+            productions.len(),
+            kids.as_mut_ptr(),
+            kids.len(),
+            &mut numbers,
+        )
+    };
+    let mut root = [0; 7];
+    root.iter_mut()
+        .zip(&numbers[5..])
+        .for_each(|(slot, &number)| *slot = number as u16);
+    Report {
+        answer: answer(numbers[0], numbers[1]),
+        closures: numbers[2],
+        entries: numbers[3] as u16,
+        passes: numbers[4] as u16,
+        root,
+    }
+}
+
+/// From the answer's number, where 0 is noncircular and 10 circular, and the root's production.
+fn answer(kind: u32, production: u32) -> Answer {
+    match kind {
+        0 => Answer::Noncircular,
+        8 => Answer::OutOfSteps,
+        9 => Answer::OutOfRoom,
+        10 => Answer::Circular(production as u16),
+        number => Answer::Refused(number as u8),
+    }
 }
 
 /// The edges of some edge records, six bytes each.
