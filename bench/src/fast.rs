@@ -1,0 +1,200 @@
+//! The passes of the page in Rust, written for speed: rows of bits, and only the nodes that are there. It takes a table that is not
+//! refused, and its entries stand in slices, one for each field.
+
+pub const MOST_RIGHT: usize = 7;
+
+#[derive(Clone, Copy, Debug, PartialEq, Eq)]
+pub enum Answer {
+    Noncircular,
+    Circular(u16),
+    OutOfSteps,
+    OutOfRoom,
+}
+
+#[derive(Clone, Copy, Debug, PartialEq, Eq)]
+pub struct Report {
+    pub answer: Answer,
+    pub closures: u32,
+    pub entries: u16,
+    pub passes: u16,
+    pub root: [u16; MOST_RIGHT],
+}
+
+pub struct Entries {
+    pub symbols: Vec<u16>,
+    pub graphs: Vec<u64>,
+    pub productions: Vec<u16>,
+    pub kids: Vec<[u16; MOST_RIGHT]>,
+}
+
+impl Entries {
+    pub fn new(room: usize) -> Entries {
+        Entries {
+            symbols: vec![0; room],
+            graphs: vec![0; room],
+            productions: vec![0; room],
+            kids: vec![[0; MOST_RIGHT]; room],
+        }
+    }
+}
+
+struct Production<'a> {
+    number: u16,
+    left: u16,
+    right: [u16; MOST_RIGHT],
+    n: usize,
+    edges: &'a [u8],
+}
+
+pub fn run(table: &[u8], limit: u32, entries: &mut Entries) -> Report {
+    let productions = productions(table);
+    let mut run = Run {
+        limit,
+        entries,
+        stored: 0,
+        closures: 0,
+        root: [0; MOST_RIGHT],
+    };
+    let mut passes = 0;
+    let answer = loop {
+        passes += 1;
+        let before = run.stored;
+        if let Some(answer) = productions.iter().find_map(|production| run.turn(production)) {
+            break answer;
+        }
+        if run.stored == before {
+            break Answer::Noncircular;
+        }
+    };
+    Report {
+        answer,
+        closures: run.closures,
+        entries: run.stored as u16,
+        passes,
+        root: run.root,
+    }
+}
+
+fn two(bytes: &[u8], at: usize) -> u16 {
+    u16::from_le_bytes([bytes[at], bytes[at + 1]])
+}
+
+fn productions(table: &[u8]) -> Vec<Production<'_>> {
+    let (symbols, count, edge_count) = (two(table, 0) as usize, two(table, 2) as usize, two(table, 4) as usize);
+    let at = 24 + 2 * symbols;
+    let edges = &table[at + 18 * count..at + 18 * count + 6 * edge_count];
+    let mut next = 0;
+    (0..count)
+        .map(|number| {
+            let record = &table[at + 18 * number..at + 18 * number + 18];
+            let begin = next;
+            while next < edges.len() && two(edges, next) as usize == number {
+                next += 6;
+            }
+            let mut right = [0; MOST_RIGHT];
+            (0..MOST_RIGHT).for_each(|slot| right[slot] = two(record, 4 + 2 * slot));
+            Production {
+                number: number as u16,
+                left: two(record, 0),
+                right,
+                n: two(record, 2) as usize,
+                edges: &edges[begin..next],
+            }
+        })
+        .collect()
+}
+
+struct Run<'a> {
+    limit: u32,
+    entries: &'a mut Entries,
+    stored: usize,
+    closures: u32,
+    root: [u16; MOST_RIGHT],
+}
+
+impl Run<'_> {
+    fn turn(&mut self, production: &Production) -> Option<Answer> {
+        let stored = self.stored;
+        let has = |symbol: &u16| self.entries.symbols[..stored].contains(symbol);
+        if !production.right[..production.n].iter().all(has) {
+            return None;
+        }
+        let mut own = [0u64; 64];
+        for edge in production.edges.chunks_exact(6) {
+            own[8 * edge[2] as usize + edge[3] as usize] |= 1 << (8 * edge[4] + edge[5]);
+        }
+        self.level(production, &own, stored, 0, &mut [0; MOST_RIGHT])
+    }
+
+    fn level(
+        &mut self,
+        production: &Production,
+        rows: &[u64; 64],
+        stored: usize,
+        slot: usize,
+        kids: &mut [u16; 7],
+    ) -> Option<Answer> {
+        if slot == production.n {
+            return self.combination(production, rows, kids);
+        }
+        for entry in 0..stored {
+            if self.entries.symbols[entry] == production.right[slot] {
+                kids[slot] = entry as u16;
+                let mut placed = *rows;
+                place(&mut placed, self.entries.graphs[entry], slot + 1);
+                let answer = self.level(production, &placed, stored, slot + 1, kids);
+                if answer.is_some() {
+                    return answer;
+                }
+            }
+        }
+        None
+    }
+
+    fn combination(&mut self, production: &Production, rows: &[u64; 64], kids: &[u16; MOST_RIGHT]) -> Option<Answer> {
+        if self.closures == self.limit {
+            return Some(Answer::OutOfSteps);
+        }
+        let mut rows = *rows;
+        let nodes = &mut rows[..8 * (production.n + 1)];
+        close(nodes);
+        self.closures += 1;
+        let mut kids = *kids;
+        kids[production.n..].fill(0);
+        if nodes.iter().enumerate().any(|(node, row)| row >> node & 1 == 1) {
+            self.root = kids;
+            return Some(Answer::Circular(production.number));
+        }
+        let graph = (0..8).fold(0, |graph, a| graph | (nodes[a] & 255) << (8 * a));
+        let same = |entry| self.entries.symbols[entry] == production.left && self.entries.graphs[entry] == graph;
+        if (0..self.stored).any(same) {
+            return None;
+        }
+        if self.stored == self.entries.symbols.len() {
+            return Some(Answer::OutOfRoom);
+        }
+        self.entries.symbols[self.stored] = production.left;
+        self.entries.graphs[self.stored] = graph;
+        self.entries.productions[self.stored] = production.number;
+        self.entries.kids[self.stored] = kids;
+        self.stored += 1;
+        None
+    }
+}
+
+fn place(rows: &mut [u64; 64], graph: u64, occurrence: usize) {
+    for a in 0..8 {
+        rows[8 * occurrence + a] |= (graph >> (8 * a) & 255) << (8 * occurrence);
+    }
+}
+
+/// Warshall's steps where the rows stand.
+fn close(rows: &mut [u64]) {
+    for k in 0..rows.len() {
+        let via = rows[k];
+        for row in rows.iter_mut() {
+            // All ones where the row has node k, so that no branch is taken.
+            *row |= via & (*row >> k & 1).wrapping_neg();
+        }
+    }
+}
