@@ -126,6 +126,24 @@ module _ (bs : List ℕ) where
         subst (runs.Sound (systemOf 8 (grammarOf bs)) (In (byNumber (grammarOf bs))) limit room) (sym (taken good limit room))
         (runs-shown.outcome-sound (systemOf 8 (grammarOf bs)) (byNumber (grammarOf bs)) limit room)
 
+  -- limit and count are kept, also by a refusal
+  pub closures-within : (limit room : ℕ) → back bs limit room .report .closures ≤ limit
+  closures-within limit room = go either
+    where
+      go : (refusal 8 bs ≡ 0) ⊎ ((k : ℕ) × Breaks 8 bs k) → back bs limit room .report .closures ≤ limit
+      go (inl e) = sound e limit room .closures
+      go (inr (k, b)) = omega (arith, ap (λ (o : Outcome). o .report .closures) (refused k b limit room))
+
+  pub counted-entries : (limit room : ℕ) → back bs limit room .report .entries ≡ length (back bs limit room .entries)
+  counted-entries limit room = go either
+    where
+      go : (refusal 8 bs ≡ 0) ⊎ ((k : ℕ) × Breaks 8 bs k)
+          → back bs limit room .report .entries ≡ length (back bs limit room .entries)
+      go (inl e) = sound e limit room .counted
+      go (inr (k, b)) =
+          let q = refused k b limit room in
+          ap (λ (o : Outcome). o .report .entries) q ∙ sym (ap (λ (o : Outcome). length (o .entries)) q)
+
   pub circular-shown : (limit room p : ℕ) → answer bs limit room ≡ Circular p → CircularShown bs limit room p
   circular-shown limit room p h =
       let good = not-refused limit room (Circular p) h (λ e. omega arith) in

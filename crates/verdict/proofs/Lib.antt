@@ -8,4 +8,5 @@ pub mod Obeys
 pub mod Trees
 pub mod Room
 pub mod Demands
+pub mod Program
 pub mod Examples

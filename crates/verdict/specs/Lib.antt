@@ -1,2 +1,3 @@
 -- The demands, as statements about the rules that the program is proved to follow.
 pub mod Demands
+pub mod Program
