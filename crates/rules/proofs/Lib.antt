@@ -1,4 +1,3 @@
+-- The worked cases, and both sides of the table's borders.
 pub mod Cases
 pub mod Borders
-pub mod Growth
-pub mod Nested

@@ -11,7 +11,8 @@ use Rattle.trees.specs.Lists.{Distinct}
 use Rattle.trees.specs.Tree.{Tree}
 use Rattle.trees.specs.Compound.{IsGraph, NumberHolds}
 use Rattle.trees.specs.Record.{Entry, shownEntry, pairs, OfTree, Derived, Saturated}
-use Rattle.trees.proofs.Lists.{length-upFrom, of-upFrom, distinct-upFrom, distinct-map, pigeons-numbered}
+use Rattle.numbers.proofs.Ranges.{length-upFrom}
+use Rattle.trees.proofs.Lists.{of-upFrom, distinct-upFrom, distinct-map, pigeons-numbered}
 use Rattle.trees.proofs.Shown.{entry-shown}
 use Rattle.trees.proofs.Saturation.{all-stored}
 use Rattle.trees.proofs.Numbers.{told-apart}

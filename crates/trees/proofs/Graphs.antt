@@ -6,7 +6,8 @@ use Rattle.numbers.specs.Paths.{Plus, Circle}
 use Rattle.grammar.specs.Grammar.{Grammar}
 use Rattle.trees.specs.Tree.{node, Kids, nil, cons, Instance, here, TreeEdge, KidEdge}
 use Rattle.trees.specs.Compound.{Compound, OverKids, IthHolds, OverGraphs, Makes, IsGraph, AreGraphs}
-use Rattle.trees.proofs.Paths.{first-edge, widen}
+use Rattle.numbers.proofs.Ways.{carried}
+use Rattle.trees.proofs.Paths.{first-edge}
 use Rattle.trees.proofs.Compose.{root-graph, circle-below}
 
 -- a compound graph grows with the graphs of its subtrees
@@ -16,7 +17,7 @@ module _ {O : Instance → Instance → Type 0} {R S : ℕ → ℕ → ℕ → T
   grow-edge x y (Compound.pair {i = i} {a = a} {b = b} r) = Compound.pair (f i a b r)
 
   pub grow : {x y : Instance} → Plus (Compound O R) x y → Plus (Compound O S) x y
-  grow p = widen grow-edge p
+  grow p = carried grow-edge p
 
 module _ (g : Grammar) {Graph : Type 0} (Holds : Graph → ℕ → ℕ → Type 0) where
   same-pairs :

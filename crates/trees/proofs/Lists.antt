@@ -7,6 +7,7 @@ use native.Mathlib.Decide.{ℕ-discrete}
 use native.Mathlib.Omega.{arith}
 use lib.ListN.{length, getD, length-map}
 use Rattle.numbers.specs.Lists.{upFrom}
+use Rattle.numbers.proofs.Ranges.{length-upFrom}
 use Rattle.trees.specs.Lists.{Distinct}
 
 -- ---- members
@@ -21,11 +22,6 @@ pub at-cons : {A : Type 0} (P : A → Type 0) {y x : A} {l : List A} → P y →
 at-cons P h f m = ⊎-elim (λ e. subst P (sym e) h) f (List·Memᴰ·cases-cons m)
 
 -- ---- runs of numbers
-
-pub length-upFrom : (i n : ℕ) → length (upFrom i n) ≡ n
-unfolding upFrom
-length-upFrom i zero = refl
-length-upFrom i (suc n) = ap suc (length-upFrom (suc i) n)
 
 pub upFrom-holds : (i n a : ℕ) → i ≤ a → a < i + n → List·Memᴰ a (upFrom i n)
 unfolding upFrom

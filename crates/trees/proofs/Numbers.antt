@@ -10,6 +10,7 @@ use native.Mathlib.Omega.{arith}
 use lib.ListN.{length, getD}
 use Rattle.numbers.specs.Number.{bit}
 use Rattle.numbers.specs.Paths.{Plus, one, Circle}
+use Rattle.numbers.proofs.Bits.{bit-lt, same-bit, same-bits}
 use Rattle.grammar.specs.declared.Symbol.{Symbol}
 use Rattle.grammar.specs.declared.Production.{Production}
 use Rattle.grammar.specs.declared.Node.{Node}
@@ -23,46 +24,7 @@ use Rattle.trees.specs.Numbered.{Numbered}
 use Rattle.trees.proofs.Lists.{getD-each}
 use Rattle.trees.proofs.Paths.{first-edge, last-edge, image}
 
--- ---- numbers below 2 to the power n with the same bits are equal
-
-bit-zero : (x : ℕ) → bit 0 x ≡ x % 2
-bit-zero x = rw (div-one x) refl
-
-bit-half : (k x : ℕ) → bit k (x / 2) ≡ bit (suc k) x
-bit-half k x = ap (λ (n : ℕ). n % 2) (div-div-eq-div-mul x 2 (2 ^ k) ∙ ap (λ (n : ℕ). x / n) (sym (pow-succ' 2 k)))
-
-half-below : (x n : ℕ) → x < 2 ^ suc n → x / 2 < 2 ^ n
-half-below x n h = let e = pow-succ' 2 n in omega (arith, h, e)
-
-same-bits : (n x y : ℕ) → x < 2 ^ n → y < 2 ^ n → ((k : ℕ) → k < n → bit k x ≡ bit k y) → x ≡ y
-same-bits zero x y hx hy f = omega arith
-same-bits (suc n) x y hx hy f =
-    let e = same-bits n (x / 2) (y / 2) (half-below x n hx) (half-below y n hy) halves in
-    let o : x % 2 ≡ y % 2 = sym (bit-zero x) ∙ f 0 (omega arith) ∙ bit-zero y in
-    omega (arith, e, o)
-  where
-    halves : (k : ℕ) → k < n → bit k (x / 2) ≡ bit k (y / 2)
-    halves k h = bit-half k x ∙ f (suc k) (omega arith) ∙ sym (bit-half k y)
-
 -- ---- graphs below 2 to the power w * w are told apart by their pairs
-
-bit-either : (k x : ℕ) → (bit k x ≡ 0) ⊎ (bit k x ≡ 1)
-bit-either k x = by (ℕ-discrete (bit k x) 0) (mod-lt (x / 2 ^ k) (omega arith))
-  where
-    by : Dec (bit k x ≡ 0) → bit k x < 2 → (bit k x ≡ 0) ⊎ (bit k x ≡ 1)
-    by (yes e) h = inl e
-    by (no n) h = inr (one-of (bit k x) h n)
-      where
-        one-of : (b : ℕ) → b < 2 → (¬ (b ≡ 0)) → b ≡ 1
-        one-of b h n = omega arith
-
-same-bit : (k x y : ℕ) → (bit k x ≡ 1 ↔ bit k y ≡ 1) → bit k x ≡ bit k y
-same-bit k x y h = by (bit-either k x) (bit-either k y)
-  where
-    by : (bit k x ≡ 0) ⊎ (bit k x ≡ 1) → (bit k y ≡ 0) ⊎ (bit k y ≡ 1) → bit k x ≡ bit k y
-    by (inl e) (inl f) = e ∙ sym f
-    by (inl e) (inr f) = h .1 f ∙ sym f
-    by (inr e) f = e ∙ sym (h .0 e)
 
 -- the number k of a pair is w * a + b for attributes a and b below w
 pair-of : (w k : ℕ) → k < w * w → (k / w < w) × (k % w < w) × (w * (k / w) + k % w ≡ k)
@@ -76,7 +38,7 @@ told-apart w x y hx hy f = same-bits (w * w) x y hx hy (λ k h. by k (pair-of w 
   where
     by : (k : ℕ) → (k / w < w) × (k % w < w) × (w * (k / w) + k % w ≡ k) → bit k x ≡ bit k y
     by k (ha, hb, e) =
-        same-bit k x y (
+        same-bit (bit k x) (bit k y) (bit-lt k x) (bit-lt k y) (
           λ q. rw e at (f (k / w) (k % w) .0 (record { from = ha; to = hb; worth = rw e q }) .worth),
           λ q. rw e at (f (k / w) (k % w) .1 (record { from = ha; to = hb; worth = rw e q }) .worth),
         )

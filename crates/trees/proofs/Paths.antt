@@ -2,6 +2,7 @@
 use Prim.Native.Nat.{ℕ, _<_}
 use native.Mathlib.Omega.{arith}
 use Rattle.numbers.specs.Paths.{Plus, one, snoc, Circle}
+use Rattle.numbers.proofs.Ways.{on}
 
 -- a path of zero or more edges
 pub data Star {A : Type 0} (E : A → A → Type 0) (x : A) : A → Type 0 where
@@ -9,17 +10,13 @@ pub data Star {A : Type 0} (E : A → A → Type 0) (x : A) : A → Type 0 where
   go : {y : A} → Plus E x y → Star E x y
 
 module _ {A : Type 0} {E : A → A → Type 0} where
-  pub join : {x y z : A} → Plus E x y → Plus E y z → Plus E x z
-  join p (one e) = snoc p e
-  join p (snoc q e) = snoc (join p q) e
-
   pub star-plus : {x y z : A} → Star E x y → Plus E y z → Plus E x z
   star-plus stay q = q
-  star-plus (go p) q = join p q
+  star-plus (go p) q = on p q
 
   pub plus-star : {x y z : A} → Plus E x y → Star E y z → Plus E x z
   plus-star p stay = p
-  plus-star p (go q) = join p q
+  plus-star p (go q) = on p q
 
   pub star-star : {x y z : A} → Star E x y → Star E y z → Star E x z
   star-star stay q = q
@@ -36,7 +33,7 @@ module _ {A : Type 0} {E : A → A → Type 0} where
   -- on a circle the value before x is on a circle too
   pub before : {x : A} → Plus E x x → (z : A) × E z x × Plus E z z
   before {x} (one e) = (x, e, one e)
-  before (snoc {y = z} p e) = (z, e, join (one e) p)
+  before (snoc {y = z} p e) = (z, e, on (one e) p)
 
 -- a map that takes each edge to a path takes each path to a path
 pub image :
@@ -44,11 +41,7 @@ pub image :
     → ((x y : A) → E x y → Plus F (f x) (f y))
     → {x y : A} → Plus E x y → Plus F (f x) (f y)
 image f h {x} {y} (one e) = h x y e
-image f h {x} (snoc {y = y} {z = z} p e) = join (image f h p) (h y z e)
-
--- a graph with more edges has more paths
-pub widen : {A : Type 0} {E F : A → A → Type 0} → ((x y : A) → E x y → F x y) → {x y : A} → Plus E x y → Plus F x y
-widen f p = image (λ x. x) (λ x y e. one (f x y e)) p
+image f h {x} (snoc {y = y} {z = z} p e) = on (image f h p) (h y z e)
 
 -- where each edge leads to a greater rank there is no circle
 module _ {A : Type 0} {E : A → A → Type 0} (rank : A → ℕ) (up : (x y : A) → E x y → rank x < rank y) where
