@@ -1,9 +1,9 @@
 -- Combinations in parts: one level of right symbols, whose candidates are met in ascending order. Assumes nothing.
-use mathlib.Core.Path.{_≡_, refl, sym, ap, ap₂, _∙_}
-use mathlib.Core.Bool.{Bool, true, false, _||_, cond}
+use mathlib.Core.Path.{_≡_, refl, sym, ap, _∙_}
+use mathlib.Core.Bool.{Bool, true, false, _||_}
 use mathlib.Core.List.{List, [], _∷_, _++_, map, append-assoc, append-nil}
-use Prim.Native.Nat.{ℕ, zero, suc, _+_, _-_, _≤_, _<_}
-use native.Mathlib.Nat.{zero-add, add-zero}
+use Prim.Native.Nat.{ℕ, zero, suc, _+_, _≤_, _<_}
+use native.Mathlib.Nat.{zero-add}
 use native.Mathlib.Omega.{arith}
 use native.Mathlib.Numerals.{add-one}
 use lib.Dec.{eqb}
@@ -11,6 +11,7 @@ use lib.ListN.{length, getD, set, take, drop, length-map, length-take, drop-of-l
 use lib.Seq.{drop-cons, getD-take, take-suc-set}
 use borrow.Author.Tests.{eq-eqb, ne-eqb}
 use Rattle.numbers.specs.Lists.{both, upFrom, keep}
+use Rattle.numbers.proofs.Keeping.{upFrom-split, keep-append}
 use Rattle.rules.specs.declared.Entry.{Entry}
 use Rattle.passes.specs.declared.Task.{Task}
 use Rattle.rules.specs.Passes.{entry, candidates, prefixed, combinations}
@@ -19,24 +20,6 @@ use Rattle.passes.specs.Follow.{entryAt, entriesTo, under, combosFrom, o
 use Rattle.passes.proofs.Entries.{map-append, at-map, length-entries, entry-at}
 
 -- ---- lists in parts
-
-pub up-split : (i n m : ℕ) → upFrom i (n + m) ≡ upFrom i n ++ upFrom (i + n) m
-unfolding upFrom
-up-split i zero m = rw (zero-add, add-zero)
-up-split i (suc n) m =
-    let e : suc n + m ≡ suc (n + m) = omega arith in
-    let f : suc i + n ≡ i + suc n = omega arith in
-    ap (upFrom i) e ∙ ap (λ (l : List ℕ). i ∷ l) (up-split (suc i) n m) ∙ ap (λ (k : ℕ). i ∷ (upFrom (suc i) n ++ upFrom k m)) f
-
-pub keep-append : (f : ℕ → Bool) (a b : List ℕ) → keep f (a ++ b) ≡ keep f a ++ keep f b
-unfolding keep
-keep-append f [] b = refl
-keep-append f (x ∷ a) b = go (f x) (keep-append f a b)
-  where
-    go : (t : Bool) → keep f (a ++ b) ≡ keep f a ++ keep f b
-        → cond t (x ∷ keep f (a ++ b)) (keep f (a ++ b)) ≡ cond t (x ∷ keep f a) (keep f a) ++ keep f b
-    go true h = ap (λ (l : List ℕ). x ∷ l) h
-    go false h = h
 
 pub prefixed-append : (a b : List ℕ) (rest : List (List ℕ)) → prefixed (a ++ b) rest ≡ prefixed a rest ++ prefixed b rest
 unfolding prefixed
@@ -66,7 +49,7 @@ module _ (es : List Entry) (y : ℕ) (chosen : List ℕ) (rest : List (List ℕ)
   pub between-split : (n m : ℕ) → between 0 (n + m) ≡ between 0 n ++ between n m
   unfolding between
   between-split n m =
-      ap (λ (l : List ℕ). under chosen (prefixed (keep test l) rest)) (up-split 0 n m ∙ ap (λ (k : ℕ). upFrom 0 n ++ upFrom k m) (zero-add n))
+      ap (λ (l : List ℕ). under chosen (prefixed (keep test l) rest)) (upFrom-split 0 n m ∙ ap (λ (k : ℕ). upFrom 0 n ++ upFrom k m) (zero-add n))
       ∙ ap (λ (l : List ℕ). under chosen (prefixed l rest)) (keep-append test (upFrom 0 n) (upFrom n m))
       ∙ ap (under chosen) (prefixed-append (keep test (upFrom 0 n)) (keep test (upFrom n m)) rest)
       ∙ under-append chosen (prefixed (keep test (upFrom 0 n)) rest) (prefixed (keep test (upFrom n m)) rest)
@@ -144,7 +127,7 @@ module _ (σ : Slices) (first y : ℕ) where
       let w = none-of (eqb (getD (σ .symbols) n 0) y) (occursIn (σ .symbols) y n) h in
       let f : ℕ → Bool = λ i. eqb (entry (entriesTo σ first) i .symbol) y in
       let e : f n ≡ false = ap (λ (x : Entry). eqb (x .symbol) y) (entry-at σ first n l) ∙ w .0 in
-      ap (keep f) (ap (upFrom 0) (sym (add-one n)) ∙ up-split 0 n 1 ∙ ap (λ (i : ℕ). upFrom 0 n ++ upFrom i 1) (zero-add n))
+      ap (keep f) (ap (upFrom 0) (sym (add-one n)) ∙ upFrom-split 0 n 1 ∙ ap (λ (i : ℕ). upFrom 0 n ++ upFrom i 1) (zero-add n))
       ∙ keep-append f (upFrom 0 n) (n ∷ [])
       ∙ rw (keep-none n (omega arith) (w .1), e)
 

@@ -1,22 +1,18 @@
 -- The passes: from the state that was reached to the outcome, and what it tells. Assumes nothing.
 use mathlib.Core.Path.{_≡_, refl, sym, ap, _∙_}
-use mathlib.Core.Bool.{Bool, true, false, cond}
-use mathlib.Core.List.{List, map}
-use Prim.Native.Nat.{ℕ, suc, _+_, _-_, _*_, _/_, _≤_, _<_, min}
-use native.Mathlib.Nat.{le-refl, le-trans, sub-zero}
+use mathlib.Core.Bool.{true, false}
+use mathlib.Core.List.{List}
+use Prim.Native.Nat.{ℕ, suc, _+_, _-_, _*_, _≤_}
+use native.Mathlib.Nat.{le-refl, sub-zero}
 use native.Mathlib.Numerals.{add-one}
 use native.Mathlib.Omega.{arith}
-use lib.Dec.{eqb}
-use lib.ListN.{length, getD}
 use borrow.Author.Tests.{eq-eqb, ne-eqb}
 use Rattle.rules.specs.declared.Answer.{Answer}
 use Rattle.rules.specs.declared.Answer.the-variants.{Noncircular}
-use Rattle.rules.specs.declared.Entry.{Entry}
-use Rattle.rules.specs.declared.Report.{Report}
 use Rattle.passes.specs.declared.Run.{Run}
-use Rattle.rules.specs.Passes.{System, State, Ran, going, stopped, andThen, noRoot, pass, Outcome, outcome, after, empty, passesFrom, passes}
+use Rattle.rules.specs.Passes.{System, State, Ran, going, stopped, andThen, noRoot, pass, Outcome, outcome, after, passesFrom, passes}
 use Rattle.passes.specs.Slices.{Slices, roomOf, Tells}
-use Rattle.passes.specs.Follow.{entryAt, entriesTo, stateOf, ranBy, ranOf, Kept, Follows, Roomy}
+use Rattle.passes.specs.Follow.{reportOf, entryAt, entriesTo, stateOf, ranOf, Kept, Follows, Roomy}
 use Rattle.passes.proofs.Entries.{length-entries, field-taken, kids-taken, written-over}
 use Rattle.passes.proofs.Following.{kept-same, kept-then, going-by, stopped-by}
 use Rattle.passes.proofs.Passing.{through}
@@ -38,7 +34,7 @@ roomy-start room σ r h e =
 
 pub tells : (o : Outcome) (room limit : ℕ) (σ : Slices) (r : Run) (τ : Slices) (q : Run) (a : Answer) (root : List ℕ) (begun : ℕ)
     → o ≡ outcome a root (stateOf limit τ q) begun → Kept room σ r τ q → Roomy room τ q
-    → Tells o σ (record { answer = a; closures = limit - q .left; entries = q .stored; passes = begun; root = root }) τ
+    → Tells o σ (reportOf a root limit q begun) τ
 unfolding entryAt
 tells o room limit σ r τ q a root begun e k h =
     rw e

@@ -9,7 +9,7 @@ use native.Mathlib.Omega.{arith}
 use native.Mathlib.Numerals.{add-one}
 use lib.Dec.{eqb}
 use lib.ListN.{length, getD, set, take, drop, length-append, length-set, take-append-drop, List·getD-append}
-use lib.Seq.{sets, sets-eq, length-sets, length-take-le, take-suc, take-add, take-at, drop-at, getD-at, getD-set-same, getD-set-other, drop-set-lt, drop-set-add, take-set-le, take-append-seam}
+use lib.Seq.{sets, sets-eq, length-sets, length-take-le, take-suc, take-add, drop-at, getD-at, getD-set-same, getD-set-other, drop-set-lt, drop-set-add, take-set-le, take-append-seam}
 use borrow.Author.Tests.{eq-eqb, ne-eqb}
 use Rattle.numbers.specs.Lists.{both, written}
 use Rattle.rules.specs.declared.Entry.{Entry}

@@ -5,14 +5,14 @@ use mathlib.Core.List.{List, [], _∷_, _++_}
 use Prim.Native.Nat.{ℕ, _+_, _-_, _*_, _≤_}
 use native.Mathlib.Nat.{le-refl, le-trans}
 use native.Mathlib.Omega.{arith}
-use lib.ListN.{length, drop}
+use lib.ListN.{drop}
 use lib.Seq.{drop-drop}
 use Rattle.rules.specs.declared.Answer.{Answer}
 use Rattle.passes.specs.declared.Run.{Run}
 use Rattle.passes.specs.declared.Task.{Task}
 use Rattle.rules.specs.Passes.{System, State, Ran, going, stopped, andThen, try, tries, turn, pass}
 use Rattle.passes.specs.Slices.{Slices}
-use Rattle.passes.specs.Follow.{entriesTo, stateOf, ranBy, ranOf, Beyond, Kept, Follows, Roomy, Ready}
+use Rattle.passes.specs.Follow.{stateOf, ranBy, ranOf, Beyond, Kept, Follows, Roomy, Ready}
 
 -- ---- what is kept
 

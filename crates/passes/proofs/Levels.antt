@@ -1,10 +1,10 @@
 -- A level of a turn: the loop over the candidates of one right symbol, and its ends. Assumes nothing.
 use mathlib.Core.Path.{_≡_, refl, sym, ap, ap₂, _∙_, subst}
-use mathlib.Core.Bool.{Bool, true, false}
-use mathlib.Core.List.{List, [], _∷_, _++_, append-assoc}
+use mathlib.Core.Bool.{false}
+use mathlib.Core.List.{List, [], _∷_, _++_}
 use mathlib.Core.Logic.{⊎-elim}
-use Prim.Native.Nat.{ℕ, zero, suc, _+_, _-_, _≤_, _<_}
-use native.Mathlib.Nat.{eq-or-lt-of-le, le-refl}
+use Prim.Native.Nat.{ℕ, suc, _+_, _-_, _≤_, _<_}
+use native.Mathlib.Nat.{eq-or-lt-of-le}
 use native.Mathlib.Numerals.{add-one}
 use native.Mathlib.Omega.{arith}
 use lib.ListN.{length, getD, set, take, replicate, length-take}
@@ -12,9 +12,9 @@ use lib.Seq.{append-snoc, length-take-le, take-suc-set, getD-set-same, getD-set-
 use Rattle.rules.specs.declared.Entry.{Entry}
 use Rattle.passes.specs.declared.Run.{Run}
 use Rattle.passes.specs.declared.Task.{Task}
-use Rattle.rules.specs.Passes.{State, Ran, going, andThen, entry, seven, try, tries}
+use Rattle.rules.specs.Passes.{State, Ran, going, entry, seven, try, tries}
 use Rattle.passes.specs.Slices.{Slices}
-use Rattle.passes.specs.Follow.{entryAt, entriesTo, Kept, Follows, Ready, Picked, systemBy, under, combosFrom}
+use Rattle.passes.specs.Follow.{entryAt, entriesTo, Follows, Ready, Picked, systemBy, combosFrom}
 use Rattle.passes.proofs.Entries.{length-snoc, length-entries, entry-at}
 use Rattle.passes.proofs.Combinations.{between, between-split, between-hit, between-other, between-none, later, combos-leaf, combos-level, combos-next}
 use Rattle.passes.proofs.Following.{follows-nothing, follows-still, follows-then, follows-same, tries-append, tries-one, tries-none}

@@ -1,24 +1,23 @@
 -- One combination: the verdict by its tests, and the six steps by the verdict. Assumes nothing.
-use mathlib.Core.Path.{_≡_, refl, sym, ap, ap₂, _∙_, subst}
+use mathlib.Core.Path.{_≡_, refl, sym, ap, ap₂, _∙_}
 use mathlib.Core.Bool.{Bool, true, false}
-use mathlib.Core.List.{List, [], _∷_, _++_, map}
+use mathlib.Core.List.{List}
 use Prim.Native.Nat.{ℕ, zero, suc, _+_, _-_, _*_, _≤_, _<_}
 use native.Mathlib.Numerals.{add-one}
 use native.Mathlib.Omega.{arith}
 use lib.Dec.{leb, eqb}
 use lib.ListN.{length, getD, take, replicate, length-append, length-take, length-replicate}
 use lib.Seq.{getD-take}
-use borrow.Author.Tests.{le-leb, lt-leb, eq-eqb, ne-eqb, eqb-true, eqb-false}
-use Rattle.rules.specs.declared.Answer.{Answer}
-use Rattle.rules.specs.declared.Answer.the-variants.{Noncircular, Circular, OutOfSteps, OutOfRoom}
+use borrow.Author.Tests.{le-leb, lt-leb, ne-eqb, eqb-true, eqb-false}
+use Rattle.rules.specs.declared.Answer.the-variants.{Circular, OutOfSteps, OutOfRoom}
 use Rattle.rules.specs.declared.Entry.{Entry}
 use Rattle.passes.specs.declared.Run.{Run}
 use Rattle.passes.specs.declared.Task.{Task}
 use Rattle.passes.specs.declared.Verdict.{Verdict}
 use Rattle.passes.specs.declared.Verdict.the-variants.{Steps, Circle, Known, Full, New}
-use Rattle.rules.specs.Passes.{System, State, Ran, going, stopped, andThen, numbered, seven, noRoot, entry, known, six, counted, stored, graphs, try}
+use Rattle.rules.specs.Passes.{State, Ran, going, stopped, andThen, numbered, seven, noRoot, known, six, counted, stored, graphs, try}
 use Rattle.passes.specs.Slices.{Slices}
-use Rattle.passes.specs.Follow.{entriesTo, stateOf, ranOf, Kept, Follows, Ready, Picked, systemBy, seenIn, graphsOf, verdict, judged}
+use Rattle.passes.specs.Follow.{goesOn, stops, stateOf, ranOf, Follows, Ready, Picked, systemBy, seenIn, graphsOf, verdict, judged}
 use Rattle.passes.proofs.Entries.{length-entries, seen-known, graphs-same, put, put-stay, put-entries, put-symbols, put-graphs, put-productions, put-kids}
 use Rattle.passes.proofs.Following.{kept-same, going-by}
 
@@ -159,9 +158,6 @@ module _ (k : Task) (σ : Slices) (r : Run) (picked : List ℕ) (ready : Ready k
       (eqb (r .stored) (k .room)) (systemBy k .graph (k .number) (graphsOf (σ .graphs) k picked))
       (k .number) picked (stateOf limit σ r) (counted (stateOf limit σ r)) (λ g. stored (new g) (stateOf limit σ r)))
 
-  abbrev ended : Bool → Answer → List ℕ → ℕ → Run
-  ended b a root left = record { going = b; answer = a; root = root; left = left; stored = r .stored }
-
   -- nothing is stored
   quiet : (v : Verdict) (q : Run) → now ≡ v → q .stored ≡ r .stored → q .left ≤ r .left
       → ((limit : ℕ) → r .left ≤ limit
@@ -181,21 +177,21 @@ module _ (k : Task) (σ : Slices) (r : Run) (picked : List ℕ) (ready : Ready k
   one-more : (limit : ℕ) → r .left ≤ limit → 1 ≤ r .left → limit - (r .left - 1) ≡ suc (limit - r .left)
   one-more limit l h = omega arith
 
-  pub follows-steps : now ≡ Steps → Follows (k .room) rule σ r σ (ended false OutOfSteps noRoot (r .left))
+  pub follows-steps : now ≡ Steps → Follows (k .room) rule σ r σ (stops OutOfSteps noRoot (r .left) (r .stored))
   unfolding numbered
   follows-steps h = quiet Steps _ h refl (omega arith) (λ limit l. refl)
 
-  pub follows-circle : now ≡ Circle → Follows (k .room) rule σ r σ (ended false (Circular (k .number)) picked (r .left - 1))
+  pub follows-circle : now ≡ Circle → Follows (k .room) rule σ r σ (stops (Circular (k .number)) picked (r .left - 1) (r .stored))
   follows-circle h =
       quiet Circle _ h refl (omega arith)
       (λ limit l. rw (one-more limit l (is-left k (σ .symbols) (σ .graphs) r picked (ap counts h))))
 
-  pub follows-known : now ≡ Known → Follows (k .room) rule σ r σ (ended true Noncircular noRoot (r .left - 1))
+  pub follows-known : now ≡ Known → Follows (k .room) rule σ r σ (goesOn (r .left - 1) (r .stored))
   follows-known h =
       quiet Known _ h refl (omega arith)
       (λ limit l. rw (one-more limit l (is-left k (σ .symbols) (σ .graphs) r picked (ap counts h))))
 
-  pub follows-full : now ≡ Full → Follows (k .room) rule σ r σ (ended false OutOfRoom noRoot (r .left - 1))
+  pub follows-full : now ≡ Full → Follows (k .room) rule σ r σ (stops OutOfRoom noRoot (r .left - 1) (r .stored))
   unfolding numbered
   follows-full h =
       quiet Full _ h refl (omega arith)
@@ -217,8 +213,7 @@ module _ (k : Task) (σ : Slices) (r : Run) (picked : List ℕ) (ready : Ready k
     pub in-kids : 7 * r .stored + 7 ≤ length (σ .kids)
     in-kids = omega (arith, room-left, ready .roomy .kids)
 
-    pub follows-new : Follows (k .room) rule σ r (put σ (r .stored) (new graph))
-        (record { going = true; answer = Noncircular; root = noRoot; left = r .left - 1; stored = r .stored + 1 })
+    pub follows-new : Follows (k .room) rule σ r (put σ (r .stored) (new graph)) (goesOn (r .left - 1) (r .stored + 1))
     follows-new =
         record {
           kept =

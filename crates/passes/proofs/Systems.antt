@@ -1,11 +1,8 @@
 -- Two systems that agree on a production give it the same turn. Assumes nothing.
-use mathlib.Core.Path.{_≡_, refl, sym, ap, _∙_}
-use mathlib.Core.Bool.{Bool}
+use mathlib.Core.Path.{_≡_, refl, ap, _∙_}
 use mathlib.Core.List.{List, [], _∷_, _++_, map}
 use Prim.Native.Nat.{ℕ, suc}
-use lib.ListN.{length, take, drop, replicate, length-map, length-take}
-use native.Mathlib.Omega.{arith}
-use Prim.Native.Nat.{_≤_}
+use lib.ListN.{length, take, length-map}
 use Rattle.rules.specs.declared.Entry.{Entry}
 use Rattle.passes.specs.declared.Run.{Run}
 use Rattle.passes.specs.declared.Task.{Task}

@@ -12,10 +12,8 @@ use lib.ListN.{length, getD, take, replicate, List·getD-eq-default}
 use lib.Seq.{length-take-le}
 use borrow.Author.Tests.{eqb-true}
 use Rattle.numbers.specs.Lists.{keep}
-use Rattle.grammar.specs.declared.Edge.{Edge}
 use Rattle.grammar.specs.declared.Node.{Node}
 use Rattle.grammar.specs.declared.Production.{Production}
-use Rattle.grammar.specs.declared.Symbol.{Symbol}
 use Rattle.grammar.specs.Grammar.{Grammar, noSymbol, noProduction, symbol, production, symbolAt, edgesOf}
 use Rattle.grammar.specs.Table.{P, edgesIn, grammarOf}
 use Rattle.grammar.specs.Rules.{NodeThere}

@@ -1,14 +1,13 @@
 -- The test by the check's answer. Assumes nothing.
-use mathlib.Core.Path.{_≡_, refl, sym, ap, _∙_, subst}
+use mathlib.Core.Path.{_≡_, refl, subst}
 use mathlib.Core.Bool.{Bool, true, false, cond}
 use mathlib.Core.List.{List, [], _∷_}
 use Prim.Native.Nat.{ℕ, zero, suc, _≤_}
 use native.Mathlib.Omega.{arith}
-use lib.Dec.{eqb, leb}
+use lib.Dec.{leb}
 use lib.ListN.{length}
 use borrow.Author.Tests.{ne-eqb}
 use Rattle.numbers.specs.Lists.{below, every, upFrom}
-use Rattle.grammar.specs.declared.Checked.{Checked}
 use Rattle.grammar.specs.declared.Checked.the-variants.{Good, Refused as Stopped}
 use Rattle.grammar.specs.declared.Edge.{Edge}
 use Rattle.grammar.specs.Grammar.{Grammar, production}
@@ -20,7 +19,7 @@ use Rattle.grammar.proofs.Lookups.{productions-many}
 use Rattle.rules.specs.declared.Answer.the-variants.{Refused}
 use Rattle.rules.specs.declared.Report.{Report}
 use Rattle.rules.specs.Passes.{Outcome, outcome, numbered, noRoot, empty, passes}
-use Rattle.rules.specs.Test.{systemOf, byNumber, test}
+use Rattle.rules.specs.Test.{systemOf, test}
 use Rattle.passes.specs.Slices.{Slices, roomOf, kidsOf, Tells}
 
 -- ---- a refusal is at most 7

@@ -11,12 +11,14 @@ use Rattle.grammar.specs.Grammar.{production, edgesOf}
 use Rattle.grammar.specs.Table.{grammarOf}
 use Rattle.graph.specs.Rows.{own, placedFrom, closure, hasCircle, rootGraph}
 use Rattle.rules.specs.declared.Answer.{Answer}
+use Rattle.rules.specs.declared.Answer.the-variants.{Noncircular}
 use Rattle.rules.specs.declared.Entry.{Entry}
+use Rattle.rules.specs.declared.Report.{Report}
 use Rattle.passes.specs.declared.Run.{Run}
 use Rattle.passes.specs.declared.Task.{Task}
 use Rattle.passes.specs.declared.Verdict.{Verdict}
 use Rattle.passes.specs.declared.Verdict.the-variants.{Steps, Circle, Known, Full, New}
-use Rattle.rules.specs.Passes.{System, State, Ran, going, stopped, andThen, seven, candidates, combinations}
+use Rattle.rules.specs.Passes.{System, State, Ran, going, stopped, andThen, noRoot, seven, candidates, combinations}
 use Rattle.passes.specs.Slices.{Slices}
 
 -- ---- the slices and a run, in the words of the rules
@@ -34,6 +36,16 @@ entryAt σ i =
 unfoldable pub entriesTo : Slices → ℕ → List Entry
 entriesTo σ zero = []
 entriesTo σ (suc n) = entriesTo σ n ++ (entryAt σ n ∷ [])
+
+-- a run that goes on, and one that has stopped
+abbrev pub goesOn : ℕ → ℕ → Run
+goesOn left stored = record { going = true; answer = Noncircular; root = noRoot; left = left; stored = stored }
+
+abbrev pub stops : Answer → List ℕ → ℕ → ℕ → Run
+stops a root left stored = record { going = false; answer = a; root = root; left = left; stored = stored }
+
+abbrev pub reportOf : Answer → List ℕ → ℕ → Run → ℕ → Report
+reportOf a root limit r begun = record { answer = a; closures = limit - r .left; entries = r .stored; passes = begun; root = root }
 
 -- of `limit` closures those that are not left have been made
 abbrev pub stateOf : ℕ → Slices → Run → State
@@ -108,14 +120,25 @@ taskOf bs p room first =
       first = first;
     }
 
--- the combinations that begin as the first n of the picked numbers do
+-- each combination behind the numbers that are chosen already
 unfoldable pub under : List ℕ → List (List ℕ) → List (List ℕ)
 under chosen cs = map (λ c. chosen ++ c) cs
 
+-- the combinations that begin as the first n of the picked numbers do
 unfoldable pub combosFrom : Task → List Entry → ℕ → List ℕ → List (List ℕ)
 combosFrom k es n picked = under (take n picked) (combinations (map (candidates es) (drop n (take (k .count) (k .rights)))))
 
--- a turn goes on: the room holds what is stored, to which nothing was lost since it began
+-- some of the first n entries has the symbol
+unfoldable pub occursIn : List ℕ → ℕ → ℕ → Bool
+occursIn symbols y zero = false
+occursIn symbols y (suc n) = eqb (getD symbols n 0) y || occursIn symbols y n
+
+-- each of the first n right symbols has one among the first `first` entries
+unfoldable pub allIn : List ℕ → List ℕ → ℕ → ℕ → Bool
+allIn symbols rights first zero = true
+allIn symbols rights first (suc n) = both (occursIn symbols (getD rights n 0) first) (allIn symbols rights first n)
+
+-- a turn goes on: the room holds what is stored, and what was stored when the turn began still is
 pub record Ready (k : Task) (σ : Slices) (r : Run) : Type 0 where
   pub roomy : Roomy (k .room) σ r
   pub first : k .first ≤ r .stored
@@ -128,6 +151,10 @@ pub record Picked (k : Task) (n : ℕ) (picked : List ℕ) : Type 0 where
   pub slots : picked ≡ seven (take n picked)
   pub below : (i : ℕ) → i < n → getD picked i 0 < k .first
 
+-- each picked entry has its graph
+abbrev pub PickedIn : List ℕ → Task → List ℕ → Type 0
+PickedIn graphs k picked = (k .count ≤ 7) × ((i : ℕ) → i < k .count → getD picked i 0 < length graphs)
+
 -- ---- one combination
 
 -- the symbol with the graph is among the first n entries
@@ -136,16 +163,7 @@ seenIn symbols graphs y g zero = false
 seenIn symbols graphs y g (suc n) =
     both (eqb (getD symbols n 0) y) (eqb (getD graphs n 0) g) || seenIn symbols graphs y g n
 
--- some of the first n entries has the symbol
-unfoldable pub occursIn : List ℕ → ℕ → ℕ → Bool
-occursIn symbols y zero = false
-occursIn symbols y (suc n) = eqb (getD symbols n 0) y || occursIn symbols y n
-
--- each of the first n right symbols has one among the first `first` entries
-unfoldable pub allIn : List ℕ → List ℕ → ℕ → ℕ → Bool
-allIn symbols rights first zero = true
-allIn symbols rights first (suc n) = both (occursIn symbols (getD rights n 0) first) (allIn symbols rights first n)
-
+-- the graphs of the picked entries
 abbrev pub graphsOf : List ℕ → Task → List ℕ → List ℕ
 graphsOf graphs k picked = map (λ i. getD graphs i 0) (take (k .count) picked)
 

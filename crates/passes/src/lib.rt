@@ -1,9 +1,8 @@
 // The circularity test: the passes over four parallel lent slices of numbers.
 ghost use mathlib.Core.Path.{_≡_};
 ghost use mathlib.Core.Bool.{true};
-ghost use mathlib.Core.List.{map};
-ghost use Prim.Native.Nat.{ℕ, _+_, _*_, _/_, _≤_, _<_, min};
-ghost use lib.ListN.{length, getD, set, take};
+ghost use Prim.Native.Nat.{_+_, _/_, _≤_, _<_, min};
+ghost use lib.ListN.{length, set, take};
 ghost use lib.Seq.{sets};
 ghost use Rattle.numbers.specs.Lists.{upFrom};
 ghost use Rattle.grammar.specs.Table.{P, grammarOf};
@@ -13,11 +12,15 @@ ghost use Rattle.rules.specs.Passes as stated;
 ghost use Rattle.rules.specs.Test.{systemOf};
 ghost use Rattle.passes.specs.Slices.{slices, roomOf, Tells, Tested};
 ghost use Rattle.passes.specs.Follow.{
+  goesOn,
+  stops,
+  reportOf,
   entriesTo,
   Follows,
   Roomy,
   Ready,
   Picked,
+  PickedIn,
   systemBy,
   taskOf,
   combosFrom,
@@ -31,8 +34,8 @@ use grammar::Checked;
 use rules::Answer;
 use rules::Report;
 
-// Where the passes stand: how many closures are left and how many entries are stored. `answer` and `root` count once the passes
-// do not go on.
+// Where the passes stand: the closures that are left and how many entries are stored. While the passes go on, `answer` and `root`
+// mean nothing.
 struct Run {
     going: bool,
     answer: Answer,
@@ -75,7 +78,7 @@ fn wide(x: u16) -> usize
 
 // The rows of the compound graph: the production's own, and each picked entry's pairs at its occurrence.
 fn compound(graphs: &[u64], task: Task, picked: [u16; 7]) -> [u64; 64]
-    requires { ⌜ (task .count ≤ 7) × ((i : ℕ) → i < task .count → getD picked i 0 < length (now graphs)) ⌝ }
+    requires { ⌜ PickedIn (now graphs) task picked ⌝ }
     ensures { λ r. ⌜ r ≡ placedFrom 8 1 (graphsOf (now (graphs .entry)) task picked) (task .rows) ⌝ }
 {
     let count = task.count;
@@ -93,7 +96,7 @@ fn compound(graphs: &[u64], task: Task, picked: [u16; 7]) -> [u64; 64]
 
 // One closure.
 fn closure(graphs: &[u64], task: Task, picked: [u16; 7]) -> Closed
-    requires { ⌜ (task .count ≤ 7) × ((i : ℕ) → i < task .count → getD picked i 0 < length (now graphs)) ⌝ }
+    requires { ⌜ PickedIn (now graphs) task picked ⌝ }
     ensures { λ r. ⌜ (r .circle ≡ systemBy task .circle (task .number) (graphsOf (now (graphs .entry)) task picked))
         × (r .graph ≡ systemBy task .graph (task .number) (graphsOf (now (graphs .entry)) task picked)) ⌝ }
 {
@@ -125,8 +128,7 @@ fn seen(symbols: &[u16], graphs: &[u64], stored: usize, symbol: u16, graph: u64)
 
 // Steps 1 to 5.
 fn judge(symbols: &[u16], graphs: &[u64], task: Task, picked: [u16; 7], run: Run) -> Verdict
-    requires { ⌜ (run .stored ≤ length (now symbols)) × (run .stored ≤ length (now graphs)) × (task .count ≤ 7)
-        × ((i : ℕ) → i < task .count → getD picked i 0 < length (now graphs)) ⌝ }
+    requires { ⌜ (run .stored ≤ length (now symbols)) × (run .stored ≤ length (now graphs)) × PickedIn (now graphs) task picked ⌝ }
     ensures { λ r. ⌜ r ≡ judged task (now (symbols .entry)) (now (graphs .entry)) run picked ⌝ }
 {
     if run.left == 0 {
@@ -155,6 +157,30 @@ fn put_row(kids: &mut [u16], at: usize, picked: [u16; 7])
     }
 }
 
+fn going_on(left: u32, stored: usize) -> Run
+    ensures { λ r. ⌜ r ≡ goesOn left stored ⌝ }
+{
+    Run {
+        going: true,
+        answer: Answer::Noncircular,
+        root: [0u16; 7],
+        left,
+        stored,
+    }
+}
+
+fn stopped(answer: Answer, root: [u16; 7], left: u32, stored: usize) -> Run
+    ensures { λ r. ⌜ r ≡ stops answer root left stored ⌝ }
+{
+    Run {
+        going: false,
+        answer,
+        root,
+        left,
+        stored,
+    }
+}
+
 // The six steps for one combination.
 fn try_one(
     symbols: &mut [u16],
@@ -174,46 +200,16 @@ fn try_one(
     let left = run.left;
     let stored = run.stored;
     match verdict {
-        Verdict::Steps => Run {
-            going: false,
-            answer: Answer::OutOfSteps,
-            root: [0u16; 7],
-            left,
-            stored,
-        },
-        Verdict::Circle => Run {
-            going: false,
-            answer: Answer::Circular(task.number),
-            root: picked,
-            left: left - 1,
-            stored,
-        },
-        Verdict::Known => Run {
-            going: true,
-            answer: Answer::Noncircular,
-            root: [0u16; 7],
-            left: left - 1,
-            stored,
-        },
-        Verdict::Full => Run {
-            going: false,
-            answer: Answer::OutOfRoom,
-            root: [0u16; 7],
-            left: left - 1,
-            stored,
-        },
+        Verdict::Steps => stopped(Answer::OutOfSteps, [0u16; 7], left, stored),
+        Verdict::Circle => stopped(Answer::Circular(task.number), picked, left - 1, stored),
+        Verdict::Known => going_on(left - 1, stored),
+        Verdict::Full => stopped(Answer::OutOfRoom, [0u16; 7], left - 1, stored),
         Verdict::New(graph) => {
             symbols[stored] = task.symbol;
             graphs[stored] = graph;
             productions[stored] = task.number;
             put_row(kids, 7 * stored, picked);
-            Run {
-                going: true,
-                answer: Answer::Noncircular,
-                root: [0u16; 7],
-                left: left - 1,
-                stored: stored + 1,
-            }
+            going_on(left - 1, stored + 1)
         }
     }
 }
@@ -268,12 +264,12 @@ fn level(
     now
 }
 
-// Whether one of the first `first` entries has the symbol.
-fn occurs(symbols: &[u16], first: usize, symbol: u16) -> bool
-    requires { ⌜ first ≤ length (now symbols) ⌝ }
-    ensures { λ r. ⌜ r ≡ occursIn (now (symbols .entry)) symbol first ⌝ }
+// Whether one of the first `stored` entries has the symbol.
+fn occurs(symbols: &[u16], stored: usize, symbol: u16) -> bool
+    requires { ⌜ stored ≤ length (now symbols) ⌝ }
+    ensures { λ r. ⌜ r ≡ occursIn (now (symbols .entry)) symbol stored ⌝ }
 {
-    let mut k = first;
+    let mut k = stored;
     while 0 < k {
         k -= 1;
         if symbols[k] == symbol {
@@ -283,18 +279,18 @@ fn occurs(symbols: &[u16], first: usize, symbol: u16) -> bool
     false
 }
 
-// Whether each right symbol has an entry.
+// Whether each right symbol had an entry when the turn began.
 fn all_occur(symbols: &[u16], task: Task) -> bool
     requires { ⌜ (task .first ≤ length (now symbols)) × (task .count ≤ 7) ⌝ }
     ensures { λ r. ⌜ r ≡ allIn (now (symbols .entry)) (task .rights) (task .first) (task .count) ⌝ }
 {
     let rights = task.rights;
-    let first = task.first;
+    let stored = task.first;
     let mut k = task.count;
     while 0 < k {
         k -= 1;
         let right = rights[k];
-        if !occurs(symbols, first, right) {
+        if !occurs(symbols, stored, right) {
             return false;
         }
     }
@@ -374,6 +370,20 @@ fn pass(
     now
 }
 
+// The report after `begun` passes: the closures that are not left have been made.
+fn ended(answer: Answer, root: [u16; 7], limit: u32, run: Run, begun: u16) -> Report
+    requires { ⌜ (run .left ≤ limit) × (run .stored ≤ 4096) ⌝ }
+    ensures { λ r. ⌜ r ≡ reportOf answer root limit run begun ⌝ }
+{
+    Report {
+        answer,
+        closures: limit - run.left,
+        entries: run.stored as u16,
+        passes: begun,
+        root,
+    }
+}
+
 // Passes until one has stored nothing, or the run stops.
 fn passes(
     table: &[u8],
@@ -390,13 +400,7 @@ fn passes(
         (slices (now (symbols .entry)) (now (graphs .entry)) (now (productions .entry)) (now (kids .entry))) r
         (slices (now (symbols .exit)) (now (graphs .exit)) (now (productions .exit)) (now (kids .exit))) ⌝ }
 {
-    let mut now = Run {
-        going: true,
-        answer: Answer::Noncircular,
-        root: [0u16; 7],
-        left: limit,
-        stored: 0,
-    };
+    let mut now = going_on(limit, 0);
     let mut begun: u16 = 0;
     loop {
         let before = now.stored;
@@ -405,22 +409,10 @@ fn passes(
         if !now.going {
             let answer = now.answer;
             let root = now.root;
-            return Report {
-                answer,
-                closures: limit - now.left,
-                entries: now.stored as u16,
-                passes: begun,
-                root,
-            };
+            return ended(answer, root, limit, now, begun);
         }
         if now.stored == before {
-            return Report {
-                answer: Answer::Noncircular,
-                closures: limit - now.left,
-                entries: now.stored as u16,
-                passes: begun,
-                root: [0u16; 7],
-            };
+            return ended(Answer::Noncircular, [0u16; 7], limit, now, begun);
         }
     }
 }

@@ -1,12 +1,12 @@
 -- The proof of the cycle of calls {level}. The measure is how many right symbols are left.
 -- The loop's invariant: the slices and the run follow the combinations of the entries passed. Assumes nothing.
-use mathlib.Core.Path.{_≡_, refl, sym, ap, _∙_, subst}
+use mathlib.Core.Path.{sym, subst}
 use mathlib.Core.List.{List}
-use Prim.Native.Nat.{ℕ, suc, _<_, _≤_, _+_, _-_}
+use Prim.Native.Nat.{ℕ, _<_, _≤_, _+_, _-_}
 use borrow.Author.Needs.{needs}
 use borrow.Author.Tests.{not-true, not-false}
 use native.Mathlib.Omega.{arith}
-use lib.ListN.{length, getD, set}
+use lib.ListN.{length}
 use Rattle.passes.specs.Slices.{Slices, slices}
 use Rattle.passes.specs.Follow.{Kept, Roomy, Ready, Picked}
 use Rattle.passes.proofs.Following.{kept-roomy, kept-ready}

@@ -10,10 +10,10 @@ use Rattle.passes.proofs.all_occur.Statement.{statement}
 use Rattle.passes.proofs.all_occur.Tie as tie
 
 abbrev Inv-loop : tie.InvT-loop
-Inv-loop symbols rights first k₀ k = (k ≤ k₀) × (allIn symbols rights first k ≡ allIn symbols rights first k₀)
+Inv-loop symbols rights stored k₀ k = (k ≤ k₀) × (allIn symbols rights stored k ≡ allIn symbols rights stored k₀)
 
 abbrev μ-loop : tie.MeasureT-loop
-μ-loop symbols rights first k₀ k = k
+μ-loop symbols rights stored k₀ k = k
 
 loop-holds : tie.Need-loop-holds Inv-loop μ-loop
 loop-holds c = (search needs, refl)

@@ -9,10 +9,10 @@ use Rattle.passes.proofs.occurs.Statement.{statement}
 use Rattle.passes.proofs.occurs.Tie as tie
 
 abbrev Inv-loop : tie.InvT-loop
-Inv-loop symbols first symbol k₀ k = (k ≤ first) × (occursIn symbols symbol k ≡ occursIn symbols symbol first)
+Inv-loop symbols stored symbol k₀ k = (k ≤ stored) × (occursIn symbols symbol k ≡ occursIn symbols symbol stored)
 
 abbrev μ-loop : tie.MeasureT-loop
-μ-loop symbols first symbol k₀ k = k
+μ-loop symbols stored symbol k₀ k = k
 
 loop-holds : tie.Need-loop-holds Inv-loop μ-loop
 loop-holds c = (search needs, refl)

@@ -1,21 +1,18 @@
 -- `passes::passes` meets its contract. The invariant: from the state that was reached the passes go on to their outcome.
 -- The measure is the free room: each pass but the last stores an entry. Assumes nothing.
-use mathlib.Core.Path.{_≡_, refl, sym, ap, _∙_}
-use mathlib.Core.Bool.{true}
+use mathlib.Core.Path.{_≡_, ap}
 use mathlib.Core.List.{List}
-use Prim.Native.Nat.{ℕ, _≤_, _<_, _+_, _-_}
+use Prim.Native.Nat.{ℕ, _-_}
 use borrow.Author.Needs.{needs}
 use borrow.Author.Tests.{not-true, not-false}
 use native.Mathlib.Omega.{arith}
-use lib.ListN.{replicate}
 use Rattle.numbers.specs.Lists.{upFrom}
 use Rattle.grammar.specs.Table.{grammarOf}
-use Rattle.rules.specs.declared.Answer.the-variants.{Noncircular}
 use Rattle.passes.specs.declared.Run.{Run}
-use Rattle.rules.specs.Passes.{System, noRoot}
+use Rattle.rules.specs.Passes.{System}
 use Rattle.rules.specs.Test.{systemOf}
 use Rattle.passes.specs.Slices.{Slices, slices}
-use Rattle.passes.specs.Follow.{Follows, Kept, Roomy}
+use Rattle.passes.specs.Follow.{goesOn, Follows, Kept, Roomy}
 use Rattle.passes.proofs.Following.{kept-then, kept-roomy}
 use Rattle.passes.proofs.Passing.{through}
 use Rattle.passes.proofs.Ending.{roomy-start, tells, Reached, reached-start, reached-more, ends-stop, ends-done}
@@ -31,13 +28,9 @@ abbrev μ-loop : tie.MeasureT-loop
 μ-loop table count symbols₀ graphs₀ productions₀ kids₀ room limit now₀ begun₀ symbols graphs productions kids now begun =
     room - now .stored
 
--- the run that begins
-abbrev first : ℕ → Run
-first limit = record { going = true; answer = Noncircular; root = noRoot; left = limit; stored = 0 }
-
 module _ (c : tie.At-loop Inv-loop μ-loop) where
   abbrev start : tie.Start Inv-loop μ-loop
-  start = c .before .before .before .before .before .before
+  start = c .before .before .before .before .before .before .before
 
   abbrev W : System
   W = systemOf 8 (grammarOf (start .args .table .now))
@@ -52,12 +45,15 @@ module _ (c : tie.At-loop Inv-loop μ-loop) where
   σ = slices (c .loop .symbols) (c .loop .graphs) (c .loop .productions) (c .loop .kids)
 
   abbrev r₀ : Run
-  r₀ = first (start .args .limit)
+  r₀ = c .before .going-on .result
+
+  begins : r₀ ≡ goesOn (start .args .limit) 0
+  begins = c .before .going-on .ensures
 
   roomy : Roomy (start .args .room) σ (c .loop .now)
   roomy =
       kept-roomy (start .args .room) σ₀ r₀ σ (c .loop .now) (c .loop .inv .kept)
-      (roomy-start (start .args .room) σ₀ r₀ (start .pre .2) refl)
+      (roomy-start (start .args .room) σ₀ r₀ (start .pre .2) (ap (λ (x : Run). x .stored) begins))
 
 -- after the pass
 module _ (c : tie.After-pass Inv-loop μ-loop) where
@@ -77,13 +73,21 @@ module _ (c : tie.After-pass Inv-loop μ-loop) where
   kept : Kept (start l .args .room) (σ₀ l) (r₀ l) τ q
   kept = kept-then (start l .args .room) (σ₀ l) (r₀ l) (σ l) (l .loop .now) (l .loop .inv .kept) τ q (followed .kept)
 
+  full : r₀ l .left ≡ start l .args .limit
+  full = ap (λ (x : Run). x .left) (begins l)
+
   roomy-then : Roomy (start l .args .room) τ q
   roomy-then = kept-roomy (start l .args .room) (σ l) (l .loop .now) τ q (followed .kept) (roomy l)
 
+going-on-requires : tie.Need-going-on-requires Inv-loop μ-loop
+going-on-requires c κs = search needs
+
 loop-holds : tie.Need-loop-holds Inv-loop μ-loop
 loop-holds c =
-    let s = c .before .before .before .before .before in
-    reached-start (systemOf 8 (grammarOf (s .args .table .now))) (s .args .limit) (s .args .room) (upFrom 0 (s .args .count)) _ (first (s .args .limit)) refl refl refl
+    let s = c .before .before .before .before .before .before in
+    let b = c .going-on .ensures in
+    reached-start (systemOf 8 (grammarOf (s .args .table .now))) (s .args .limit) (s .args .room) (upFrom 0 (s .args .count)) _ (c .going-on .result)
+    (ap (λ (x : Run). x .left) b) (ap (λ (x : Run). x .stored) b) (ap (λ (x : Run). x .going) b)
 
 add-begun : tie.Need-add-begun Inv-loop μ-loop
 add-begun c = omega (arith, c .loop .inv .few, roomy c .stored, roomy c .small)
@@ -93,59 +97,51 @@ pass-requires c κs =
     let i = c .before .before .before .before in
     (start i .pre .0, start i .pre .1, roomy i)
 
-sub-t25 : tie.Need-sub-t25 Inv-loop μ-loop
-sub-t25 c =
-    let a = c .before .before .before .before .before .before .before .before .before .before .before .before in
-    kept a .left
-
-cast-t26 : tie.Need-cast-t26 Inv-loop μ-loop
-cast-t26 c =
-    let a = c .before .before .before .before .before .before .before .before .before .before .before .before .before in
-    omega (arith, roomy-then a .stored, roomy-then a .small)
+ended-requires : tie.Need-ended-requires Inv-loop μ-loop
+ended-requires c κs =
+    let a = c .before .before .before .before .before .before .before .before .before .before .before in
+    (omega (arith, kept a .left, full a), omega (arith, roomy-then a .stored, roomy-then a .small))
 
 same-length : tie.Need-same-length Inv-loop μ-loop
-same-length c = kept (c .before .before .before .before .before .before .before .before .before .before .before .before .before) .symbols .long
+same-length c = kept (c .before .before .before .before .before .before .before .before .before .before .before .before) .symbols .long
 
 same-length-2 : tie.Need-same-length-2 Inv-loop μ-loop
-same-length-2 c = kept (c .before .before .before .before .before .before .before .before .before .before .before .before .before) .graphs .long
+same-length-2 c = kept (c .before .before .before .before .before .before .before .before .before .before .before .before) .graphs .long
 
 same-length-3 : tie.Need-same-length-3 Inv-loop μ-loop
-same-length-3 c = kept (c .before .before .before .before .before .before .before .before .before .before .before .before .before) .productions .long
+same-length-3 c = kept (c .before .before .before .before .before .before .before .before .before .before .before .before) .productions .long
 
 same-length-4 : tie.Need-same-length-4 Inv-loop μ-loop
-same-length-4 c = kept (c .before .before .before .before .before .before .before .before .before .before .before .before .before) .kids .long
+same-length-4 c = kept (c .before .before .before .before .before .before .before .before .before .before .before .before) .kids .long
 
 returns : tie.Need-returns Inv-loop μ-loop
 returns c =
-    let a = c .before .before .before .before .before .before .before .before .before .before .before .before .before in
-    tells _ (start (l a) .args .room) (start (l a) .args .limit) (σ₀ (l a)) (r₀ (l a)) (τ a) (q a) _ _ _ (ends-stop (W (l a)) (start (l a) .args .limit) (start (l a) .args .room) (ps (l a)) (σ₀ (l a)) (r₀ (l a)) refl (l a .loop .begun) (σ (l a)) (l a .loop .now) (l a .loop .inv) (τ a) (q a) (followed a) (not-true _ (c .before .before .before .if1 .taken))) (kept a) (roomy-then a)
+    let a = c .before .before .before .before .before .before .before .before .before .before .before .before in
+    rw (c .ended .ensures)
+    (tells _ (start (l a) .args .room) (start (l a) .args .limit) (σ₀ (l a)) (r₀ (l a)) (τ a) (q a) _ _ _ (ends-stop (W (l a)) (start (l a) .args .limit) (start (l a) .args .room) (ps (l a)) (σ₀ (l a)) (r₀ (l a)) (full a) (l a .loop .begun) (σ (l a)) (l a .loop .now) (l a .loop .inv) (τ a) (q a) (followed a) (not-true _ (c .before .before .if1 .taken))) (kept a) (roomy-then a))
 
-sub-t28 : tie.Need-sub-t28 Inv-loop μ-loop
-sub-t28 c =
-    let a = c .before .before .before .before .before .before .before .before .before .before .before .before .before in
-    kept a .left
-
-cast-t29 : tie.Need-cast-t29 Inv-loop μ-loop
-cast-t29 c =
-    let a = c .before .before .before .before .before .before .before .before .before .before .before .before .before .before in
-    omega (arith, roomy-then a .stored, roomy-then a .small)
+ended-requires-2 : tie.Need-ended-requires-2 Inv-loop μ-loop
+ended-requires-2 c κs =
+    let a = c .before .before .before .before .before .before .before .before .before .before .before .before in
+    (omega (arith, kept a .left, full a), omega (arith, roomy-then a .stored, roomy-then a .small))
 
 same-length-5 : tie.Need-same-length-5 Inv-loop μ-loop
-same-length-5 c = kept (c .before .before .before .before .before .before .before .before .before .before .before .before .before .before) .symbols .long
+same-length-5 c = kept (c .before .before .before .before .before .before .before .before .before .before .before .before .before) .symbols .long
 
 same-length-6 : tie.Need-same-length-6 Inv-loop μ-loop
-same-length-6 c = kept (c .before .before .before .before .before .before .before .before .before .before .before .before .before .before) .graphs .long
+same-length-6 c = kept (c .before .before .before .before .before .before .before .before .before .before .before .before .before) .graphs .long
 
 same-length-7 : tie.Need-same-length-7 Inv-loop μ-loop
-same-length-7 c = kept (c .before .before .before .before .before .before .before .before .before .before .before .before .before .before) .productions .long
+same-length-7 c = kept (c .before .before .before .before .before .before .before .before .before .before .before .before .before) .productions .long
 
 same-length-8 : tie.Need-same-length-8 Inv-loop μ-loop
-same-length-8 c = kept (c .before .before .before .before .before .before .before .before .before .before .before .before .before .before) .kids .long
+same-length-8 c = kept (c .before .before .before .before .before .before .before .before .before .before .before .before .before) .kids .long
 
 returns-2 : tie.Need-returns-2 Inv-loop μ-loop
 returns-2 c =
-    let a = c .before .before .before .before .before .before .before .before .before .before .before .before .before .before in
-    tells _ (start (l a) .args .room) (start (l a) .args .limit) (σ₀ (l a)) (r₀ (l a)) (τ a) (q a) _ _ _ (ends-done (W (l a)) (start (l a) .args .limit) (start (l a) .args .room) (ps (l a)) (σ₀ (l a)) (r₀ (l a)) refl (l a .loop .begun) (σ (l a)) (l a .loop .now) (l a .loop .inv) (τ a) (q a) (followed a) (not-false _ (c .before .before .before .before .if1 .left)) (c .before .before .if2 .taken)) (kept a) (roomy-then a)
+    let a = c .before .before .before .before .before .before .before .before .before .before .before .before .before in
+    rw (c .ended2 .ensures)
+    (tells _ (start (l a) .args .room) (start (l a) .args .limit) (σ₀ (l a)) (r₀ (l a)) (τ a) (q a) _ _ _ (ends-done (W (l a)) (start (l a) .args .limit) (start (l a) .args .room) (ps (l a)) (σ₀ (l a)) (r₀ (l a)) (full a) (l a .loop .begun) (σ (l a)) (l a .loop .now) (l a .loop .inv) (τ a) (q a) (followed a) (not-false _ (c .before .before .before .if1 .left)) (c .before .if2 .taken)) (kept a) (roomy-then a))
 
 loop-less : tie.Need-loop-less Inv-loop μ-loop
 loop-less c =
@@ -155,7 +151,7 @@ loop-less c =
 loop-again : tie.Need-loop-again Inv-loop μ-loop
 loop-again c =
     let a = c .before .before .before .before .before .before .before .before .before .before .before .before in
-    reached-more (W (l a)) (start (l a) .args .limit) (start (l a) .args .room) (ps (l a)) (σ₀ (l a)) (r₀ (l a)) refl (l a .loop .begun) (σ (l a)) (l a .loop .now) (l a .loop .inv) (τ a) (q a) (followed a) (not-false _ (c .before .before .if1 .left)) (c .if2 .left)
+    reached-more (W (l a)) (start (l a) .args .limit) (start (l a) .args .room) (ps (l a)) (σ₀ (l a)) (r₀ (l a)) (full a) (l a .loop .begun) (σ (l a)) (l a .loop .now) (l a .loop .inv) (τ a) (q a) (followed a) (not-false _ (c .before .before .if1 .left)) (c .if2 .left)
 
 pub passes-spec : {M : Type 1} → statement M
 passes-spec =
@@ -163,18 +159,17 @@ passes-spec =
     (tie.spec
     Inv-loop
     μ-loop
+    going-on-requires
     loop-holds
     add-begun
     pass-requires
-    sub-t25
-    cast-t26
+    ended-requires
     same-length
     same-length-2
     same-length-3
     same-length-4
     returns
-    sub-t28
-    cast-t29
+    ended-requires-2
     same-length-5
     same-length-6
     same-length-7

@@ -1,12 +1,11 @@
 -- `passes::task_of` meets its contract. Assumes nothing.
-use mathlib.Core.Path.{_≡_, sym, ap, _∙_}
+use mathlib.Core.Path.{_≡_, ap, _∙_}
 use mathlib.Core.List.{List}
 use Prim.Native.Nat.{ℕ}
 use borrow.Author.Needs.{needs}
 use native.Mathlib.Omega.{arith}
 use lib.ListN.{replicate}
 use Rattle.grammar.specs.declared.Edge.{Edge}
-use Rattle.grammar.specs.declared.Production.{Production}
 use Rattle.grammar.specs.Table.{edgesIn}
 use Rattle.graph.specs.Rows.{own}
 use Rattle.passes.specs.Follow.{taskOf}

@@ -1,9 +1,8 @@
 -- `passes::test` meets its contract. Assumes nothing.
-use mathlib.Core.Path.{_≡_, refl, sym, ap, _∙_}
-use Prim.Native.Nat.{ℕ}
+use mathlib.Core.Path.{sym, ap, _∙_}
 use borrow.Author.Needs.{needs}
 use Rattle.grammar.specs.declared.Header.{Header}
-use Rattle.passes.specs.Slices.{slices, roomOf, Tells}
+use Rattle.passes.specs.Slices.{slices}
 use Rattle.passes.proofs.Testing.{taken, test-taken, test-refused, tells-refused, tells-same}
 use Rattle.passes.proofs.test.Statement.{statement}
 use Rattle.passes.proofs.test.Tie as tie

@@ -1,11 +1,9 @@
 -- `passes::try_one` meets its contract: what it does at each verdict is what the six steps do. Assumes nothing.
 use mathlib.Core.Path.{_≡_, refl, sym, ap, _∙_}
 use mathlib.Core.Bool.{true}
-use mathlib.Core.List.{List}
-use Prim.Native.Nat.{ℕ, _≤_, _<_, _+_, _*_}
+use Prim.Native.Nat.{_≤_}
 use borrow.Author.Needs.{needs}
 use native.Mathlib.Omega.{arith}
-use lib.ListN.{length}
 use Rattle.passes.specs.declared.Verdict.{Verdict}
 use Rattle.passes.specs.declared.Verdict.the-variants.{Steps, Circle, Known, Full, New}
 use Rattle.passes.specs.Slices.{Slices, slices}
@@ -13,7 +11,6 @@ use Rattle.passes.specs.Follow.{Ready, Picked, judged}
 use Rattle.passes.proofs.Six.{counts, is-left, in-symbols, in-graphs, in-productions, in-kids, follows-steps, follows-circle, follows-known, follows-full, follows-new}
 use Rattle.passes.proofs.try_one.Statement.{statement}
 use Rattle.passes.proofs.try_one.Tie as tie
-use Rattle.passes.proofs.try_one.Lts as lts
 
 module _ (c : tie.After-judge) where
   abbrev start : tie.Start
@@ -40,30 +37,41 @@ judge-requires c κs =
     let r = s .pre .0 in (
       omega (arith, r .roomy .stored, r .roomy .symbols),
       omega (arith, r .roomy .stored, r .roomy .graphs),
-      r .few,
-      λ i l. omega (arith, s .pre .1 .below i l, r .first, r .roomy .stored, r .roomy .graphs),
+      (r .few, λ i l. omega (arith, s .pre .1 .below i l, r .first, r .roomy .stored, r .roomy .graphs)),
     )
 
 enum-told : tie.Need-enum-told
 enum-told c = search needs
 
+stopped-requires : tie.Need-stopped-requires
+stopped-requires c κs = search needs
+
 enum-told-2 : tie.Need-enum-told-2
 enum-told-2 c = search needs
 
-sub-t20 : tie.Need-sub-t20
-sub-t20 c = pays (c .before .before) Circle (c .enum-told2 .given .1) refl
+sub-stopped : tie.Need-sub-stopped
+sub-stopped c = omega (arith, pays (c .before .before) Circle (c .enum-told2 .given .1) refl)
+
+stopped-requires-2 : tie.Need-stopped-requires-2
+stopped-requires-2 c κs = search needs
 
 enum-told-3 : tie.Need-enum-told-3
 enum-told-3 c = search needs
 
-sub-t23 : tie.Need-sub-t23
-sub-t23 c = pays (c .before .before) Known (c .enum-told3 .given .1) refl
+sub-going-on : tie.Need-sub-going-on
+sub-going-on c = omega (arith, pays (c .before .before) Known (c .enum-told3 .given .1) refl)
+
+going-on-requires : tie.Need-going-on-requires
+going-on-requires c κs = search needs
 
 enum-told-4 : tie.Need-enum-told-4
 enum-told-4 c = search needs
 
-sub-t26 : tie.Need-sub-t26
-sub-t26 c = pays (c .before .before) Full (c .enum-told4 .given .1) refl
+sub-stopped-2 : tie.Need-sub-stopped-2
+sub-stopped-2 c = omega (arith, pays (c .before .before) Full (c .enum-told4 .given .1) refl)
+
+stopped-requires-3 : tie.Need-stopped-requires-3
+stopped-requires-3 c κs = search needs
 
 enum-known-verdict : tie.Need-enum-known-verdict
 enum-known-verdict c = search needs
@@ -100,11 +108,14 @@ put-row-requires c κs =
     let j = c .before .before .before .before in
     in-kids (start j .args .task) (σ j) (start j .args .run) (start j .args .picked) (ready j) (numbers j) _ (told j (New _) (c .before .before .verdict .given .1))
 
-sub-t36 : tie.Need-sub-t36
-sub-t36 c = pays (c .before .before .before .before .before .before .before) (New _) (c .before .before .before .before .before .verdict .given .1) refl
+sub-going-on-2 : tie.Need-sub-going-on-2
+sub-going-on-2 c = omega (arith, pays (c .before .before .before .before .before .before .before) (New _) (c .before .before .before .before .before .verdict .given .1) refl)
 
-add-t27 : tie.Need-add-t27
-add-t27 c = search needs
+add-going-on : tie.Need-add-going-on
+add-going-on c = search needs
+
+going-on-requires-2 : tie.Need-going-on-requires-2
+going-on-requires-2 c κs = search needs
 
 same-length : tie.Need-same-length
 same-length c = search needs
@@ -114,8 +125,8 @@ same-length-2 c = search needs
 
 returns : tie.Need-returns
 returns c =
-    let j = c .before .before in
-    follows-steps (start j .args .task) (σ j) (start j .args .run) (start j .args .picked) (ready j) (numbers j) (told j Steps (c .enum-told .given .1))
+    let j = c .before .before .before in
+    rw (c .stopped .ensures) (follows-steps (start j .args .task) (σ j) (start j .args .run) (start j .args .picked) (ready j) (numbers j) (told j Steps (c .before .enum-told .given .1)))
 
 same-length-3 : tie.Need-same-length-3
 same-length-3 c = search needs
@@ -125,8 +136,8 @@ same-length-4 c = search needs
 
 returns-2 : tie.Need-returns-2
 returns-2 c =
-    let j = c .before .before in
-    follows-circle (start j .args .task) (σ j) (start j .args .run) (start j .args .picked) (ready j) (numbers j) (told j Circle (c .enum-told2 .given .1))
+    let j = c .before .before .before in
+    rw (c .stopped2 .ensures) (follows-circle (start j .args .task) (σ j) (start j .args .run) (start j .args .picked) (ready j) (numbers j) (told j Circle (c .before .enum-told2 .given .1)))
 
 same-length-5 : tie.Need-same-length-5
 same-length-5 c = search needs
@@ -136,8 +147,8 @@ same-length-6 c = search needs
 
 returns-3 : tie.Need-returns-3
 returns-3 c =
-    let j = c .before .before in
-    follows-known (start j .args .task) (σ j) (start j .args .run) (start j .args .picked) (ready j) (numbers j) (told j Known (c .enum-told3 .given .1))
+    let j = c .before .before .before in
+    rw (c .going-on .ensures) (follows-known (start j .args .task) (σ j) (start j .args .run) (start j .args .picked) (ready j) (numbers j) (told j Known (c .before .enum-told3 .given .1)))
 
 same-length-7 : tie.Need-same-length-7
 same-length-7 c = search needs
@@ -147,8 +158,8 @@ same-length-8 c = search needs
 
 returns-4 : tie.Need-returns-4
 returns-4 c =
-    let j = c .before .before in
-    follows-full (start j .args .task) (σ j) (start j .args .run) (start j .args .picked) (ready j) (numbers j) (told j Full (c .enum-told4 .given .1))
+    let j = c .before .before .before in
+    rw (c .stopped3 .ensures) (follows-full (start j .args .task) (σ j) (start j .args .run) (start j .args .picked) (ready j) (numbers j) (told j Full (c .before .enum-told4 .given .1)))
 
 same-length-9 : tie.Need-same-length-9
 same-length-9 c = search needs
@@ -164,10 +175,8 @@ same-length-12 c = search needs
 
 returns-5 : tie.Need-returns-5
 returns-5 c =
-    let j = c .before .before .before .before .before .before .before in
-    rw (c .before .before .put-row .ensures)
-    (follows-new (start j .args .task) (σ j) (start j .args .run) (start j .args .picked) (ready j) (numbers j) _
-    (told j (New _) (c .before .before .before .before .before .verdict .given .1)))
+    let j = c .before .before .before .before .before .before .before .before in
+    rw (c .going-on2 .ensures, c .before .before .before .put-row .ensures) (follows-new (start j .args .task) (σ j) (start j .args .run) (start j .args .picked) (ready j) (numbers j) _ (told j (New _) (c .before .before .before .before .before .before .verdict .given .1)))
 
 pub try-one-spec : {M : Type 1} → statement M
 try-one-spec =
@@ -175,12 +184,16 @@ try-one-spec =
     (tie.spec
     judge-requires
     enum-told
+    stopped-requires
     enum-told-2
-    sub-t20
+    sub-stopped
+    stopped-requires-2
     enum-told-3
-    sub-t23
+    sub-going-on
+    going-on-requires
     enum-told-4
-    sub-t26
+    sub-stopped-2
+    stopped-requires-3
     enum-known-verdict
     mul-symbols
     slice-write-symbols
@@ -190,8 +203,9 @@ try-one-spec =
     slice-write-productions
     mul-put-row
     put-row-requires
-    sub-t36
-    add-t27
+    sub-going-on-2
+    add-going-on
+    going-on-requires-2
     same-length
     same-length-2
     returns

@@ -1,13 +1,11 @@
 -- `passes::turn` meets its contract. Assumes nothing.
-use mathlib.Core.Path.{_≡_, refl, sym, ap, _∙_}
-use Prim.Native.Nat.{ℕ, _≤_, _<_}
+use mathlib.Core.Path.{sym, _∙_}
 use borrow.Author.Needs.{needs}
 use borrow.Author.Tests.{not-true}
 use native.Mathlib.Omega.{arith}
-use lib.ListN.{length, replicate}
-use Rattle.grammar.specs.Table.{P}
+use lib.ListN.{replicate}
 use Rattle.passes.specs.Slices.{Slices, slices}
-use Rattle.passes.specs.Follow.{Roomy, Ready}
+use Rattle.passes.specs.Follow.{Ready}
 use Rattle.passes.proofs.Combinations.{combos-none}
 use Rattle.passes.proofs.Levels.{over-none, picked-none}
 use Rattle.passes.proofs.Tables.{few-productions, task-ready, task-turn}
