@@ -1,22 +1,20 @@
 -- Each test of the check decides its rule. Assumes nothing.
-use mathlib.Core.Path.{_≡_, refl}
-use mathlib.Core.Bool.{true}
-use mathlib.Core.List.{List}
-use Prim.Native.Nat.{ℕ, zero, suc, _≤_, _^_}
+use mathlib.Core.Path.{_≡_}
+use mathlib.Core.List.{List, List·Memᴰ}
+use Prim.Native.Nat.{ℕ, zero, suc, _<_, _^_}
 use lib.Dec.{eqb, ltb}
 use lib.ListN.{length, drop}
 use Rattle.numbers.specs.Number.{bit, le4}
-use Rattle.numbers.proofs.Decides.{Decides, le-decides, lt-decides, eq-decides, both-decides, every-decides, below-decides, says}
+use Rattle.numbers.specs.Lists.{every}
+use Rattle.numbers.proofs.Decides.{Decides, le-decides, lt-decides, eq-decides, both-decides, every-decides, says}
 use Rattle.grammar.specs.declared.Symbol.{Symbol}
 use Rattle.grammar.specs.declared.Production.{Production}
 use Rattle.grammar.specs.declared.Node.{Node}
 use Rattle.grammar.specs.declared.Edge.{Edge}
 use Rattle.grammar.specs.Grammar.{Grammar, symbol, production, rights, symbolAt}
 use Rattle.grammar.specs.Table.{N, P, E, startOf, atSymbols, atProductions, atEdges, total, grammarOf}
-use Rattle.grammar.specs.Rules.{CountsInRange, OffsetsRight, GoodSymbol, GoodProduction, NodeThere, Allowed, GoodEdge, GoodSymbols, GoodProductions, AboveBefore, edge, key}
-use Rattle.numbers.specs.Lists.{every}
+use Rattle.grammar.specs.Rules.{CountsInRange, OffsetsRight, GoodSymbol, GoodProduction, NodeThere, Allowed, GoodEdge, GoodSymbols, GoodProductions}
 use Rattle.grammar.specs.Refusal.{countsOk, offsetsOk, symbolOk, productionOk, nodeOk, allowed, edgeOk}
-use Rattle.grammar.specs.Steps.{inOrder}
 
 module _ (bs : List ℕ) where
   pub counts-decide : Decides (countsOk bs) (CountsInRange bs)
@@ -55,6 +53,13 @@ symbol-decides w s =
     (λ r. (r .count, r .mask))
     (both-decides (le-decides (s .count) w) (lt-decides (s .mask) (2 ^ s .count)))
 
+pub rights-decide :
+    (n : ℕ) (l : List ℕ) → Decides (every (λ s. ltb s n) l) ((s : ℕ) → List·Memᴰ s l → s < n)
+rights-decide n = every-decides (λ s. ltb s n) (λ s. s < n) (λ s. lt-decides s n)
+
+pub spare-decide : (l : List ℕ) → Decides (every (λ s. eqb s 0) l) ((s : ℕ) → List·Memᴰ s l → s ≡ 0)
+spare-decide = every-decides (λ s. eqb s 0) (λ s. s ≡ 0) (λ s. eq-decides s 0)
+
 pub production-decides : (n : ℕ) (p : Production) → Decides (productionOk n p) (GoodProduction n p)
 unfolding productionOk
 production-decides n p =
@@ -66,8 +71,8 @@ production-decides n p =
     (both-decides
     (le-decides (p .n) 7)
     (both-decides
-    (every-decides (λ s. ltb s n) _ (λ s. lt-decides s n) (rights p))
-    (every-decides (λ s. eqb s 0) _ (λ s. eq-decides s 0) (drop (p .n) (p .slots))))))
+    (rights-decide n (rights p))
+    (spare-decide (drop (p .n) (p .slots))))))
 
 pub node-decides : (g : Grammar) (p : Production) (x : Node) → Decides (nodeOk g p x) (NodeThere g p x)
 unfolding nodeOk

@@ -1,7 +1,9 @@
 -- Laws and theorems about the table.
 pub mod Lookups
 pub mod Seeking
-pub mod Checking
+pub mod Occurrences
+pub mod Handing
+pub mod Sequence
 pub mod Decided
 pub mod Refused
 pub mod Runs

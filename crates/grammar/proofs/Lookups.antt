@@ -1,6 +1,6 @@
 -- What stands at a number of the grammar that some bytes say, and how many records it has. Assumes nothing.
-use mathlib.Core.Path.{_≡_, refl, sym, _∙_}
-use mathlib.Core.List.{List, [], _∷_, map}
+use mathlib.Core.Path.{_≡_, _∙_}
+use mathlib.Core.List.{List, [], _∷_}
 use Prim.Native.Nat.{ℕ, _+_, _*_, _≤_, _<_}
 use native.Mathlib.Nat.{add-zero, add-assoc}
 use native.Mathlib.Omega.{arith}
@@ -9,7 +9,7 @@ use Rattle.numbers.specs.Number.{le2}
 use Rattle.numbers.specs.Lists.{upFrom}
 use Rattle.numbers.proofs.Bytes.{byte-past, le2-past}
 use Rattle.numbers.proofs.Ranges.{length-upFrom, at-below, at-past}
-use Rattle.grammar.specs.Grammar.{Grammar, symbol, production, noSymbol, noProduction}
+use Rattle.grammar.specs.Grammar.{symbol, production, noSymbol, noProduction}
 use Rattle.grammar.specs.Table.{N, P, E, atSymbols, atProductions, atEdges, symbolIn, productionIn, edgeIn, grammarOf}
 use Rattle.grammar.specs.Rules.{edge, noEdge}
 

@@ -1,25 +1,25 @@
 -- A table is refused exactly for the first rule that it breaks. Assumes nothing.
 use mathlib.Core.Path.{_≡_, refl, sym, ap, subst, _∙_}
-use mathlib.Core.Bool.{Bool, true, false}
-use mathlib.Core.List.{List, [], _∷_}
+use mathlib.Core.List.{List}
 use Prim.Native.Nat.{ℕ, zero, suc, _+_, _-_, _≤_, _<_}
 use native.Mathlib.Nat.{le-refl}
 use native.Mathlib.Decide.{decLe}
 use native.Mathlib.Numerals.{add-one}
 use native.Mathlib.Omega.{arith}
 use borrow.Author.Count.{below-none, below-more}
-use lib.ListN.{length, getD, drop, drop-of-length-le}
+use lib.ListN.{length, drop, drop-of-length-le}
 use lib.Seq.{drop-cons}
 use Rattle.numbers.specs.Lists.{every}
 use Rattle.numbers.proofs.Decides.{Decides, Outcome, holds, fails, outcome, not-so, below-decides}
 use Rattle.grammar.specs.Grammar.{Grammar, production}
 use Rattle.grammar.specs.Table.{N, E, grammarOf}
-use Rattle.grammar.specs.Rules.{HasHeader, CountsInRange, OffsetsRight, GoodSymbols, GoodProductions, GoodEdge, AboveBefore, GoodEdges, BeforeEdges, Breaks, header-short, counts, offsets, symbol-bad, production-bad, edge-bad, edge-order, edge, key, noEdge}
+use Rattle.grammar.specs.Rules.{CountsInRange, OffsetsRight, GoodSymbols, GoodProductions, GoodEdge, AboveBefore, GoodEdges, BeforeEdges, Breaks, header-short, counts, offsets, symbol-bad, production-bad, edge-bad, edge-order, edge, key, noEdge}
 use Rattle.grammar.specs.Refusal.{countsOk, offsetsOk, symbolOk, productionOk, edgeOk, oneEdge, edgesRefusal, refusal}
 use Rattle.grammar.specs.Steps.{inOrder}
 use Rattle.grammar.specs.Valid.{RefusedExactly}
 use Rattle.grammar.proofs.Lookups.{edges-many}
-use Rattle.grammar.proofs.Checking.{edgesLeft, one-more, none-left, refusal-one, refusal-two, refusal-three, refusal-four, refusal-five, refusal-edges}
+use Rattle.grammar.proofs.Handing.{passed, six, seven, edgesLeft, one-more, none-left}
+use Rattle.grammar.proofs.Sequence.{refusal-one, refusal-two, refusal-three, refusal-four, refusal-five, refusal-edges}
 use Rattle.grammar.proofs.Decided.{counts-decide, offsets-decide, symbols-decide, productions-decide, edge-decides}
 
 -- ---- the edges by number
@@ -27,19 +27,6 @@ pub data EdgesOutcome (g : Grammar) : ℕ → Type 0 where
   all-good : GoodEdges g (length (g .edges)) → EdgesOutcome g 0
   one-bad : (i : ℕ) → i < length (g .edges) → GoodEdges g i → (¬ GoodEdge g (edge g i)) → EdgesOutcome g 6
   one-low : (i : ℕ) → i < length (g .edges) → GoodEdges g i → GoodEdge g (edge g i) → (¬ AboveBefore g i) → EdgesOutcome g 7
-
-module _ (good above : Bool) (rest : ℕ) where
-  passes : good ≡ true → above ≡ true → oneEdge good above rest ≡ rest
-  unfolding oneEdge
-  passes p q = rw (p, q)
-
-  six : good ≡ false → oneEdge good above rest ≡ 6
-  unfolding oneEdge
-  six p = rw p
-
-  seven : good ≡ true → above ≡ false → oneEdge good above rest ≡ 7
-  unfolding oneEdge
-  seven p q = rw (p, q)
 
 module _ (g : Grammar) where
   -- what is left from the edge i on, after the edge before it
@@ -74,14 +61,14 @@ module _ (g : Grammar) where
   one-more-good : (i : ℕ) → GoodEdges g i → GoodEdge g (edge g i) → AboveBefore g i → GoodEdges g (i + 1)
   one-more-good i all good above = below-more (λ j. GoodEdge g (edge g j) × AboveBefore g j) i all (good, above)
 
-  -- good edges are passed over
-  passed : (i : ℕ) → i ≤ length (g .edges) → GoodEdges g i → at 0 ≡ at i
-  passed zero h all = refl
-  passed (suc i) h all =
+  -- good edges are skipped
+  skipped : (i : ℕ) → i ≤ length (g .edges) → GoodEdges g i → at 0 ≡ at i
+  skipped zero h all = refl
+  skipped (suc i) h all =
       let here = all i (le-refl (suc i)) in
-      passed i (omega arith) (λ j l. all j (omega arith))
+      skipped i (omega arith) (λ j l. all j (omega arith))
       ∙ at-edge i h
-      ∙ passes _ _ _ (edge-decides g (edge g i) .passes (here .0)) (order-decides i .passes (here .1))
+      ∙ passed _ _ _ (edge-decides g (edge g i) .passes (here .0)) (order-decides i .passes (here .1))
       ∙ ap at (add-one i)
 
   pub edges-six :
@@ -91,7 +78,7 @@ module _ (g : Grammar) where
       → (¬ GoodEdge g (edge g i))
       → edgesRefusal g (g .edges) ≡ 6
   edges-six i h all bad =
-      sym at-first ∙ passed i (omega arith) all ∙ at-edge i h ∙ six _ _ _ (not-so (edge-decides g (edge g i)) bad)
+      sym at-first ∙ skipped i (omega arith) all ∙ at-edge i h ∙ six _ _ _ (not-so (edge-decides g (edge g i)) bad)
 
   pub edges-seven :
       (i : ℕ)
@@ -102,7 +89,7 @@ module _ (g : Grammar) where
       → edgesRefusal g (g .edges) ≡ 7
   edges-seven i h all good low =
       sym at-first
-      ∙ passed i (omega arith) all
+      ∙ skipped i (omega arith) all
       ∙ at-edge i h
       ∙ seven _ _ _ (edge-decides g (edge g i) .passes good) (not-so (order-decides i) low)
 
@@ -124,7 +111,7 @@ module _ (g : Grammar) where
       go (holds t good) (fails u low) rest =
           subst (EdgesOutcome g) (sym (at-edge i h ∙ seven _ _ _ t u)) (one-low i h all good low)
       go (holds t good) (holds u above) rest =
-          subst (EdgesOutcome g) (sym (at-edge i h ∙ passes _ _ _ t u)) (rest (one-more-good i all good above))
+          subst (EdgesOutcome g) (sym (at-edge i h ∙ passed _ _ _ t u)) (rest (one-more-good i all good above))
 
   pub edges-outcome : EdgesOutcome g (edgesRefusal g (g .edges))
   edges-outcome =

@@ -1,7 +1,7 @@
 -- In a table whose edges ascend, the search finds all edges of a production and only them. Assumes nothing.
 use mathlib.Core.Path.{_≡_, refl, sym, ap, ap₂, subst, _∙_}
-use mathlib.Core.Bool.{Bool, true, false, cond}
-use mathlib.Core.List.{List, [], _++_, map, map-append, append-nil}
+use mathlib.Core.Bool.{Bool}
+use mathlib.Core.List.{List, _++_, map, map-append, append-nil}
 use Prim.Native.Nat.{ℕ, zero, suc, _+_, _-_, _*_, _/_, _^_, _≤_, _<_}
 use native.Mathlib.Nat.{pow-suc}
 use native.Mathlib.Decide.{decLe, decLt}
@@ -11,12 +11,11 @@ use lib.Dec.{eqb}
 use lib.Pow.{pow-pos}
 use lib.ListN.{length, getD, take, drop, length-take, length-drop}
 use lib.Seq.{getD-take, getD-drop}
-use Rattle.numbers.specs.Number.{le2}
 use Rattle.numbers.specs.Lists.{upFrom, keep}
 use Rattle.numbers.proofs.Keeping.{upFrom-split, map-same, map-moved, keep-append, keep-none, keep-all}
 use Rattle.grammar.specs.declared.Edge.{Edge}
 use Rattle.grammar.specs.Grammar.{edgesOf}
-use Rattle.grammar.specs.Table.{P, E, atEdges, total, nodeIn, edgeIn, edgesIn, grammarOf}
+use Rattle.grammar.specs.Table.{P, E, atEdges, total, edgeIn, edgesIn, grammarOf}
 use Rattle.grammar.specs.Reading.{producing, further, seek, firstOf, endOf, runOf}
 use Rattle.grammar.proofs.Seeking.{further-few, further-on, further-not, run-none, run-there}
 
@@ -56,12 +55,8 @@ module _ (bs : List ℕ) (sorted : (i j : ℕ) → i ≤ j → j < E bs → prod
         where
           by-last : Dec (producing bs (at + 2 ^ k - 1) < p) → Goal (further bs p (2 ^ k) at)
           by-last (yes l) =
-              let r =
-              next
-              (at + 2 ^ k)
-              y
-              (λ i u. omega (arith, sorted i (at + 2 ^ k - 1) (omega arith) (omega (arith, pow-pos k))))
-              (λ i u v. high i (omega (arith, pow-suc 2 k)) v) in
+              let low′ : (i : ℕ) → i < at + 2 ^ k → producing bs i < p = λ i u. omega (arith, sorted i (at + 2 ^ k - 1) (omega arith) (omega (arith, pow-pos k))) in
+              let r = next (at + 2 ^ k) y low′ (λ i u v. high i (omega (arith, pow-suc 2 k)) v) in
               subst Goal (sym (further-on bs p (2 ^ k) at y l)) (r .0, omega (arith, r .1))
           by-last (no l) =
               subst

@@ -1,17 +1,15 @@
 -- A table that is not refused obeys every rule, and its runs are unbroken. Assumes nothing.
-use mathlib.Core.Path.{_≡_, refl, sym, ap, subst, _∙_}
+use mathlib.Core.Path.{_≡_, sym, ap, subst}
 use mathlib.Core.List.{List, List·Memᴰ}
 use mathlib.Core.Logic.{⊎-elim}
-use Prim.Native.Nat.{ℕ, zero, suc, _+_, _*_, _≤_, _<_}
+use Prim.Native.Nat.{ℕ, zero, suc, _≤_, _<_}
 use native.Mathlib.Nat.{lt-irrefl, not-suc-le-zero, le-of-suc-le-suc, eq-or-lt-of-le}
 use native.Mathlib.Omega.{arith}
 use lib.Dec.{lit<}
-use lib.ListN.{length}
 use Rattle.numbers.specs.Lists.{Below}
 use Rattle.numbers.proofs.Ordered.{below-trans, below-first, stands-at}
 use Rattle.grammar.specs.declared.Edge.{Edge}
-use Rattle.grammar.specs.Grammar.{Grammar}
-use Rattle.grammar.specs.Table.{P, E, atEdges, edgeIn, grammarOf}
+use Rattle.grammar.specs.Table.{E, edgeIn, grammarOf}
 use Rattle.grammar.specs.Rules.{GoodEdge, GoodEdges, BeforeEdges, Breaks, header-short, counts, offsets, symbol-bad, production-bad, edge-bad, edge-order, edge, key, noEdge}
 use Rattle.grammar.specs.Reading.{producing}
 use Rattle.grammar.specs.Valid.{Valid, TakenIsValid}

@@ -1,5 +1,5 @@
 -- What the parts of the check answer. No promise of a public function speaks of it. Assumes nothing.
-use mathlib.Core.Bool.{Bool, true, false, cond}
+use mathlib.Core.Bool.{Bool, true, false}
 use mathlib.Core.List.{List}
 use Prim.Native.Nat.{ℕ, zero, suc, _+_, _*_}
 use Rattle.numbers.specs.Lists.{below}
@@ -13,18 +13,16 @@ use Rattle.grammar.specs.Table.{atEdges, edgeIn, grammarOf}
 use Rattle.grammar.specs.Rules.{key}
 use Rattle.grammar.specs.Refusal.{symbolOk, productionOk, edgeOk}
 
--- a record by its test, or the refusal
-unfoldable pub symbolRead : Symbol → Read
-symbolRead s = cond (symbolOk 8 s) (Read.Symbol s) (Read.Refused 4)
+-- what was read, by its test, or the refusal k
+unfoldable pub orRefused : Bool → Read → ℕ → Read
+orRefused true x k = x
+orRefused false x k = Read.Refused k
 
-unfoldable pub productionRead : ℕ → Production → Read
-productionRead n p = cond (productionOk n p) (Read.Production (record { left = p .left; n = p .n })) (Read.Refused 5)
+abbrev pub symbolRead : Symbol → Read
+symbolRead s = orRefused (symbolOk 8 s) (Read.Symbol s) 4
 
--- 6 before 7
-unfoldable pub edgeRead : Bool → Bool → Edge → Read
-edgeRead false above e = Read.Refused 6
-edgeRead true false e = Read.Refused 7
-edgeRead true true e = Read.Edge e
+abbrev pub productionRead : ℕ → Production → Read
+productionRead n p = orRefused (productionOk n p) (Read.Production (record { left = p .left; n = p .n })) 5
 
 -- the refusal that is handed up
 abbrev pub handedUp : Read → Checked
@@ -43,8 +41,14 @@ unfoldable pub inOrder : ℕ → Edge → Edge → Bool
 inOrder zero before e = true
 inOrder (suc i) before e = below (key before) (key e)
 
--- the edge record i of a table, after the edge before it
-unfoldable pub edgeAt : List ℕ → ℕ → Edge → Read
-edgeAt bs i before =
-    let e = edgeIn bs (atEdges bs + 6 * i) in
-    edgeRead (edgeOk (grammarOf bs) (production (grammarOf bs) (e .production)) e) (inOrder i before e) e
+-- the edge record i of a table
+abbrev pub edgeAt : List ℕ → ℕ → Edge
+edgeAt bs i = edgeIn bs (atEdges bs + 6 * i)
+
+-- an edge of a table by its number, after the edge before it: 6 before 7
+abbrev pub edgeRead : List ℕ → ℕ → Edge → Edge → Read
+edgeRead bs i before e =
+    orRefused
+    (edgeOk (grammarOf bs) (production (grammarOf bs) (e .production)) e)
+    (orRefused (inOrder i before e) (Read.Edge e) 7)
+    6

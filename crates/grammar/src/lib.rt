@@ -23,7 +23,7 @@ ghost use Rattle.grammar.specs.Refusal.{
   refusal,
 };
 ghost use Rattle.grammar.specs.Reading.{checked, headerOf, further, seek, runOf};
-ghost use Rattle.grammar.specs.Steps.{handedUp, symbolRead, productionRead, edgeAt, whole, inOrder};
+ghost use Rattle.grammar.specs.Steps.{handedUp, symbolRead, productionRead, edgeAt, edgeRead, whole, inOrder};
 
 // Attributes 0 to `count` - 1; `mask` has a bit for each, set where it is inherited.
 pub struct Symbol {
@@ -60,13 +60,13 @@ pub struct Header {
 }
 
 // The left symbol of a production, and how many right symbols it has.
-pub struct Head {
+struct Head {
     pub left: u16,
     pub n: u16,
 }
 
 // A record that was read, or the number of the rule that it breaks. An enum holds no array, so a production comes without its slots.
-pub enum Read {
+enum Read {
     Symbol(Symbol),
     Production(Head),
     Edge(Edge),
@@ -77,12 +77,6 @@ pub enum Read {
 pub enum Checked {
     Good,
     Refused(u8),
-}
-
-fn wide(x: u16) -> usize
-    ensures { λ r. ⌜ r ≡ x ⌝ }
-{
-    x as usize
 }
 
 pub fn header_of(table: &[u8]) -> Header
@@ -99,20 +93,20 @@ pub fn header_of(table: &[u8]) -> Header
 fn at_productions(h: Header) -> usize
     ensures { λ r. ⌜ r ≡ 24 + 2 * h .symbols ⌝ }
 {
-    24 + 2 * wide(h.symbols)
+    24 + 2 * (h.symbols as usize)
 }
 
 fn at_edges(h: Header) -> usize
     ensures { λ r. ⌜ r ≡ 24 + 2 * h .symbols + 18 * h .productions ⌝ }
 {
-    24 + 2 * wide(h.symbols) + 18 * wide(h.productions)
+    24 + 2 * (h.symbols as usize) + 18 * (h.productions as usize)
 }
 
 // The symbol of a number, and one without attributes where there is none.
 pub fn symbol_of(table: &[u8], s: usize) -> Symbol
     ensures { λ r. ⌜ r ≡ symbol (grammarOf (now (table .entry))) s ⌝ }
 {
-    if wide(two_at(table, 0)) <= s {
+    if two_at(table, 0) as usize <= s {
         return Symbol { count: 0, mask: 0 };
     }
     let at = 24 + 2 * s;
@@ -147,7 +141,7 @@ pub fn production_of(table: &[u8], p: usize) -> Production
     ensures { λ r. ⌜ r ≡ production (grammarOf (now (table .entry))) p ⌝ }
 {
     let h = header_of(table);
-    if wide(h.productions) <= p {
+    if h.productions as usize <= p {
         let slots = [0u16; 7];
         return Production {
             left: 0,
@@ -213,11 +207,11 @@ fn step_further(table: &[u8], h: Header, p: usize, step: usize, at: usize) -> us
     ensures { λ r. ⌜ r ≡ further (now (table .entry)) p step at ⌝ }
 {
     let next = at + step;
-    if wide(h.edges) < next {
+    if (h.edges as usize) < next {
         return at;
     }
     let last = two_at(table, at_edges(h) + 6 * (next - 1));
-    if wide(last) < p { next } else { at }
+    if (last as usize) < p { next } else { at }
 }
 
 // From the edge `from` on, the first that is not of a production below p, by halving.
@@ -245,23 +239,18 @@ pub fn run_of(table: &[u8], p: usize) -> &[u8]
     ensures { λ r. ⌜ now r ≡ runOf (now (table .entry)) p ⌝ }
 {
     let h = header_of(table);
-    if wide(h.productions) <= p {
+    if h.productions as usize <= p {
         return &table[..0];
     }
     let first = seek_from(table, h, p, 0);
     let end = seek_from(table, h, p + 1, first);
-    let a = within(at_edges(h) + 6 * first, table.len());
-    let e = within(at_edges(h) + 6 * end, table.len());
+    let at = at_edges(h);
+    let a = within(at + 6 * first, table.len());
+    let e = within(at + 6 * end, table.len());
     &table[a..e]
 }
 
 // ---- the check
-
-fn wide32(x: u32) -> usize
-    ensures { λ r. ⌜ r ≡ x ⌝ }
-{
-    x as usize
-}
 
 // The refusal of a record, handed up.
 fn handed_up(read: Read) -> Checked
@@ -298,17 +287,19 @@ fn offsets_ok(table: &[u8]) -> bool
     ensures { λ r. ⌜ r ≡ offsetsOk (now (table .entry)) ⌝ }
 {
     let h = header_of(table);
+    let productions = at_productions(h);
+    let edges = at_edges(h);
+    let total = edges + 6 * (h.edges as usize);
     if four_at(table, 8) != 24 {
         return false;
     }
-    if wide32(four_at(table, 12)) != at_productions(h) {
+    if four_at(table, 12) as usize != productions {
         return false;
     }
-    if wide32(four_at(table, 16)) != at_edges(h) {
+    if four_at(table, 16) as usize != edges {
         return false;
     }
-    let total = at_edges(h) + 6 * wide(h.edges);
-    if wide32(four_at(table, 20)) != total {
+    if four_at(table, 20) as usize != total {
         return false;
     }
     total == table.len()
@@ -337,7 +328,7 @@ fn read_symbol(table: &[u8], s: usize) -> Read
 fn check_symbols(table: &[u8]) -> Checked
     ensures { λ r. ⌜ r ≡ whole 4 (every (symbolOk 8) (grammarOf (now (table .entry)) .symbols)) ⌝ }
 {
-    let count = wide(two_at(table, 0));
+    let count = two_at(table, 0) as usize;
     let mut s = 0;
     while s < count {
         let read = read_symbol(table, s);
@@ -354,7 +345,7 @@ fn rights_ok(slots: [u16; 7], n: u16, symbols: u16) -> bool
     requires { ⌜ n ≤ 7 ⌝ }
     ensures { λ r. ⌜ r ≡ every (λ s. ltb s symbols) (take n slots) ⌝ }
 {
-    let end = wide(n);
+    let end = n as usize;
     let mut k = 0;
     while k < end {
         if symbols <= slots[k] {
@@ -370,7 +361,7 @@ fn spare_ok(slots: [u16; 7], n: u16) -> bool
     requires { ⌜ n ≤ 7 ⌝ }
     ensures { λ r. ⌜ r ≡ every (λ s. eqb s 0) (drop n slots) ⌝ }
 {
-    let mut k = wide(n);
+    let mut k = n as usize;
     while k < 7 {
         if slots[k] != 0 {
             return false;
@@ -413,7 +404,7 @@ fn read_production(table: &[u8], p: usize) -> Read
 fn check_productions(table: &[u8]) -> Checked
     ensures { λ r. ⌜ r ≡ whole 5 (every (productionOk (N (now (table .entry)))) (grammarOf (now (table .entry)) .productions)) ⌝ }
 {
-    let count = wide(two_at(table, 2));
+    let count = two_at(table, 2) as usize;
     let mut p = 0;
     while p < count {
         let read = read_production(table, p);
@@ -433,7 +424,7 @@ fn symbol_at(p: Production, occurrence: u8) -> u16
         return p.left;
     }
     let k = (occurrence - 1) as usize;
-    if wide(p.n) <= k {
+    if p.n as usize <= k {
         return 0;
     }
     if 7 <= k {
@@ -446,7 +437,7 @@ fn symbol_at(p: Production, occurrence: u8) -> u16
 fn symbol_there(table: &[u8], p: Production, occurrence: u8) -> Symbol
     ensures { λ r. ⌜ r ≡ symbol (grammarOf (now (table .entry))) (symbolAt p occurrence) ⌝ }
 {
-    symbol_of(table, wide(symbol_at(p, occurrence)))
+    symbol_of(table, symbol_at(p, occurrence) as usize)
 }
 
 fn node_ok(table: &[u8], p: Production, x: Node) -> bool
@@ -482,7 +473,7 @@ fn edge_ok(table: &[u8], e: Edge) -> bool
     if two_at(table, 2) <= e.production {
         return false;
     }
-    let p = production_of(table, wide(e.production));
+    let p = production_of(table, e.production as usize);
     let source = e.source;
     if !node_ok(table, p, source) {
         return false;
@@ -525,7 +516,7 @@ fn in_order(i: usize, before: Edge, e: Edge) -> bool
 // The edge i, after the edge before it.
 fn read_edge(table: &[u8], i: usize, before: Edge) -> Read
     requires { ⌜ i < 65536 ⌝ }
-    ensures { λ r. ⌜ r ≡ edgeAt (now (table .entry)) i before ⌝ }
+    ensures { λ r. ⌜ r ≡ edgeRead (now (table .entry)) i before (edgeAt (now (table .entry)) i) ⌝ }
 {
     let e = edge_in(table, at_edges(header_of(table)) + 6 * i);
     if !edge_ok(table, e) {
@@ -540,7 +531,7 @@ fn read_edge(table: &[u8], i: usize, before: Edge) -> Read
 fn check_edges(table: &[u8]) -> Checked
     ensures { λ r. ⌜ r ≡ checked (edgesRefusal (grammarOf (now (table .entry))) (grammarOf (now (table .entry)) .edges)) ⌝ }
 {
-    let count = wide(two_at(table, 4));
+    let count = two_at(table, 4) as usize;
     let mut before = no_edge();
     let mut i = 0;
     while i < count {

@@ -4,7 +4,6 @@ use mathlib.Core.Bool.{Bool, true, false, _||_}
 use mathlib.Core.List.{List, [], _∷_, List·Memᴰ, List·Memᴰ·head, List·Memᴰ·tail, List·Memᴰ·cases-cons, List·Memᴰ·not-nil}
 use mathlib.Core.Logic.{_⊎_, inl, inr, ⊎-elim}
 use Prim.Native.Nat.{ℕ, _≤_, _<_}
-use native.Mathlib.Omega.{arith}
 use borrow.Author.Tests.{ltb-true, leb-true, eqb-true, lt-ltb, le-leb, eq-eqb}
 use lib.Dec.{leb, ltb, eqb, T}
 use Rattle.numbers.specs.Lists.{both, every, below, Below}
@@ -22,12 +21,15 @@ pub data Outcome (b : Bool) (A : Type 0) : Type 0 where
   fails : b ≡ false → (¬ A) → Outcome b A
 
 module _ {b : Bool} {A : Type 0} (d : Decides b A) where
+  pub refuted : b ≡ false → A → ⊥
+  refuted e a = true-not-false (sym (d .passes a) ∙ e)
+
   pub outcome : Outcome b A
   outcome = go b refl
     where
       go : (c : Bool) → b ≡ c → Outcome b A
       go true e = holds e (d .so e)
-      go false e = fails e (λ a. true-not-false (sym (d .passes a) ∙ e))
+      go false e = fails e (refuted e)
 
   pub not-so : (¬ A) → b ≡ false
   not-so n = go b refl
@@ -35,6 +37,14 @@ module _ {b : Bool} {A : Type 0} (d : Decides b A) where
       go : (c : Bool) → b ≡ c → b ≡ false
       go true e = absurd (n (d .so e))
       go false e = e
+
+-- tests that decide the same have the same outcome
+pub same-test : {a b : Bool} {A B : Type 0} → Decides a A → Decides b B → (A → B) → (B → A) → a ≡ b
+same-test {a} {b} {A} {B} d e f g = go (outcome d)
+  where
+    go : Outcome a A → a ≡ b
+    go (holds t x) = t ∙ sym (e .passes (f x))
+    go (fails t n) = t ∙ sym (not-so e (λ y. n (g y)))
 
 pub le-decides : (m n : ℕ) → Decides (leb m n) (m ≤ n)
 le-decides m n = record { so = leb-true m n; passes = le-leb m n }

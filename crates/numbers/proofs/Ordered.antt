@@ -1,11 +1,14 @@
--- The order of lists is transitive and goes by the first field; what is in a list stands at some number. Assumes nothing.
-use mathlib.Core.Path.{_≡_, refl, sym, subst, _∙_}
+-- The order of lists: transitive, by the first field, field by field; what is in a list stands at some number. Assumes nothing.
+use mathlib.Core.Path.{_≡_, refl, _∙_}
+use mathlib.Core.Bool.{Bool, true, false, _||_}
 use mathlib.Core.List.{List, [], _∷_, List·Memᴰ, List·Memᴰ·head, List·Memᴰ·tail}
-use mathlib.Core.Logic.{_⊎_, inl, inr}
+use mathlib.Core.Logic.{inl, inr}
 use Prim.Native.Nat.{ℕ, zero, suc, _≤_, _<_, suc-le-suc, zero-le}
 use native.Mathlib.Omega.{arith}
+use borrow.Author.Tests.{eq-eqb, ne-eqb, le-ltb}
+use lib.Dec.{ltb, eqb}
 use lib.ListN.{length, getD}
-use Rattle.numbers.specs.Lists.{Below}
+use Rattle.numbers.specs.Lists.{both, below, Below}
 
 pub below-trans : (xs ys zs : List ℕ) → Below xs ys → Below ys zs → Below xs zs
 below-trans [] ys zs p q = absurd p
@@ -33,3 +36,26 @@ stands-at d x (y ∷ l) (List·Memᴰ·head e) = (zero, suc-le-suc zero-le, e)
 stands-at d x (y ∷ l) (List·Memᴰ·tail m) =
     let r = stands-at d x l m in
     (suc (r .0), suc-le-suc (r .1), r .2)
+
+-- ---- the order field by field
+or-false : (b : Bool) → b || false ≡ b
+or-false true = refl
+or-false false = refl
+
+both-false : (b : Bool) → both b false ≡ false
+unfolding both
+both-false true = refl
+both-false false = refl
+
+module _ (x y : ℕ) (xs ys : List ℕ) where
+  pub below-differ : (x ≡ y → ⊥) → below (x ∷ xs) (y ∷ ys) ≡ ltb x y
+  unfolding below both
+  below-differ h = rw (ne-eqb x y h) (or-false (ltb x y))
+
+  pub below-same : x ≡ y → below (x ∷ xs) (y ∷ ys) ≡ below xs ys
+  unfolding below both
+  below-same h = simp (eq-eqb x y h, le-ltb x y (omega arith))
+
+pub below-last : (x y : ℕ) → below (x ∷ []) (y ∷ []) ≡ ltb x y
+unfolding below
+below-last x y = rw (both-false (eqb x y)) (or-false (ltb x y))

@@ -1,10 +1,11 @@
--- `grammar::check` meets its contract. Assumes nothing.
-use Rattle.grammar.proofs.Checking.{whole-good, whole-refused, refusal-one, refusal-two, refusal-three, refusal-four, refusal-five, refusal-edges}
+-- `grammar::check` meets its contract. Each return cites the checks that led there. Assumes nothing.
+use mathlib.Core.Path.{sym, ap, _∙_}
+use borrow.Author.Tests.{not-true, not-false}
+use borrow.Author.Needs.{needs}
 use Rattle.grammar.specs.Steps.{whole}
 use Rattle.grammar.specs.Reading.{checked}
-use borrow.Author.Tests.{not-true, not-false}
-use mathlib.Core.Path.{sym, ap, _∙_}
-use borrow.Author.Needs.{needs}
+use Rattle.grammar.proofs.Handing.{whole-good, whole-refused}
+use Rattle.grammar.proofs.Sequence.{refusal-one, refusal-two, refusal-three, refusal-four, refusal-five, refusal-edges}
 use Rattle.grammar.proofs.check.Statement.{statement}
 use Rattle.grammar.proofs.check.Tie as tie
 

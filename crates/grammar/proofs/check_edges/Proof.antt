@@ -1,17 +1,17 @@
--- `grammar::check_edges` meets its contract. Assumes nothing.
-use Rattle.grammar.proofs.Checking.{edgesLeft, edgesAfter, edges-whole, edges-done, edges-stop, edges-go}
-use Rattle.grammar.proofs.Read.{the-type}
+-- `grammar::check_edges` meets its contract. What the edges from i on say, after the edge before them, is what all of them say. Assumes nothing.
+use mathlib.Core.Path.{_≡_, sym, ap, subst, _∙_}
+use mathlib.Core.List.{[], _∷_}
+use Prim.Native.Nat.{_≤_, _-_}
+use native.Mathlib.Omega.{arith}
+use borrow.Author.Needs.{needs}
+use types.Run.{OneOf}
+use denote.Enum.Declared.{tagOf}
 use Rattle.grammar.specs.Steps.{handedUp}
 use Rattle.grammar.specs.Reading.{checked}
 use Rattle.grammar.specs.Refusal.{edgesRefusal}
 use Rattle.grammar.specs.Table.{E, grammarOf}
-use denote.Enum.Declared.{tagOf}
-use types.Run.{OneOf}
-use native.Mathlib.Omega.{arith}
-use Prim.Native.Nat.{_≤_, _-_}
-use mathlib.Core.List.{[], _∷_}
-use mathlib.Core.Path.{_≡_, sym, ap, subst, _∙_}
-use borrow.Author.Needs.{needs}
+use Rattle.grammar.proofs.Handing.{edgesLeft, edgesAfter, edges-whole, edges-done, edges-stop, edges-go}
+use Rattle.grammar.proofs.Read.{the-type}
 use Rattle.grammar.proofs.check_edges.Statement.{statement}
 use Rattle.grammar.proofs.check_edges.Tie as tie
 
@@ -27,15 +27,15 @@ abbrev μ-loop : tie.MeasureT-loop
 two-at-requires : tie.Need-two-at-requires Inv-loop μ-loop
 two-at-requires c κs = search needs
 
-wide-requires : tie.Need-wide-requires Inv-loop μ-loop
-wide-requires c κs = search needs
+cast-count : tie.Need-cast-count Inv-loop μ-loop
+cast-count c = search needs
 
 no-edge-requires : tie.Need-no-edge-requires Inv-loop μ-loop
 no-edge-requires c κs = search needs
 
 loop-holds : tie.Need-loop-holds Inv-loop μ-loop
 loop-holds c =
-    (search needs, c .before .wide .ensures ∙ c .before .before .two-at .ensures, edges-whole (c .before .before .before .before .args .table .now) (c .no-edge .result))
+    (search needs, c .before .two-at .ensures, edges-whole (c .before .before .before .args .table .now) (c .no-edge .result))
 
 read-edge-requires : tie.Need-read-edge-requires Inv-loop μ-loop
 read-edge-requires c κs = search needs
@@ -48,7 +48,7 @@ handed-up-requires c κs = search needs
 
 returns : tie.Need-returns Inv-loop μ-loop
 returns c =
-    let bs = c .before .before .before .before .before .before .before .before .before .args .table .now in
+    let bs = c .before .before .before .before .before .before .before .before .args .table .now in
     let i = c .before .before .before .before .loop .i in
     let q = c .before .before .read-edge .ensures in
     let k = subst (λ r. OneOf (0 ∷ 1 ∷ 3 ∷ []) (tagOf the-type r)) q (c .before .match .keys2) in
@@ -65,7 +65,7 @@ loop-less c = search needs
 
 loop-again : tie.Need-loop-again Inv-loop μ-loop
 loop-again c =
-    let bs = c .before .before .before .before .before .before .before .before .before .before .args .table .now in
+    let bs = c .before .before .before .before .before .before .before .before .before .args .table .now in
     let i = c .before .before .before .before .before .loop .i in
     let q = sym (c .before .before .before .read-edge .ensures) ∙ c .before .read .given .1 in
     (omega arith, c .before .before .before .before .before .loop .inv .1, edges-go bs (c .before .before .before .before .before .loop .before) i (omega arith) _ q ∙ c .before .before .before .before .before .loop .inv .2)
@@ -73,7 +73,7 @@ loop-again c =
 returns-2 : tie.Need-returns-2 Inv-loop μ-loop
 unfolding checked
 returns-2 c =
-    let bs = c .before .before .before .before .before .before .args .table .now in
+    let bs = c .before .before .before .before .before .args .table .now in
     ap checked (sym (edges-done bs (c .before .loop .before) (c .before .loop .i) (omega arith)) ∙ c .before .loop .inv .2)
 
 pub check-edges-spec : {M : Type 1} → statement M
@@ -83,7 +83,7 @@ check-edges-spec =
     Inv-loop
     μ-loop
     two-at-requires
-    wide-requires
+    cast-count
     no-edge-requires
     loop-holds
     read-edge-requires

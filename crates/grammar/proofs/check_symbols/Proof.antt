@@ -1,21 +1,20 @@
--- `grammar::check_symbols` meets its contract. Assumes nothing.
-use Rattle.grammar.proofs.Checking.{symbol-fine, symbol-refused}
-use Rattle.grammar.proofs.Lookups.{symbol-there}
-use Rattle.grammar.proofs.Read.{the-type}
+-- `grammar::check_symbols` meets its contract. What is left of the symbols, from s on, passes the test exactly if all of them do. Assumes nothing.
+use mathlib.Core.Path.{_≡_, sym, ap, subst, _∙_}
+use mathlib.Core.List.{[], _∷_, map}
+use Prim.Native.Nat.{_≤_, _<_, _+_, _-_, _*_}
+use native.Mathlib.Omega.{arith}
+use native.Mathlib.Nat.{sub-zero}
+use borrow.Author.Needs.{needs}
+use types.Run.{OneOf, miss}
+use denote.Enum.Declared.{tagOf}
+use Rattle.numbers.specs.Lists.{every, upFrom}
+use Rattle.numbers.proofs.Every.{passes-in, fails-in, passes-range}
 use Rattle.grammar.specs.Steps.{handedUp, whole}
 use Rattle.grammar.specs.Refusal.{symbolOk}
 use Rattle.grammar.specs.Table.{N, atSymbols, symbolIn, grammarOf}
-use Rattle.grammar.specs.Grammar.{symbol}
-use Rattle.numbers.proofs.Every.{passes-in, fails-in, passes-range}
-use Rattle.numbers.specs.Lists.{every, upFrom}
-use denote.Enum.Declared.{tagOf}
-use types.Run.{OneOf}
-use native.Mathlib.Omega.{arith}
-use native.Mathlib.Nat.{sub-zero}
-use Prim.Native.Nat.{_≤_, _<_, _+_, _-_, _*_}
-use mathlib.Core.List.{[], _∷_, map}
-use mathlib.Core.Path.{_≡_, sym, ap, subst, _∙_}
-use borrow.Author.Needs.{needs}
+use Rattle.grammar.proofs.Handing.{lost, fine, refused}
+use Rattle.grammar.proofs.Lookups.{symbol-there}
+use Rattle.grammar.proofs.Read.{the-type}
 use Rattle.grammar.proofs.check_symbols.Statement.{statement}
 use Rattle.grammar.proofs.check_symbols.Tie as tie
 
@@ -32,12 +31,12 @@ abbrev μ-loop : tie.MeasureT-loop
 two-at-requires : tie.Need-two-at-requires Inv-loop μ-loop
 two-at-requires c κs = search needs
 
-wide-requires : tie.Need-wide-requires Inv-loop μ-loop
-wide-requires c κs = search needs
+cast-count : tie.Need-cast-count Inv-loop μ-loop
+cast-count c = search needs
 
 loop-holds : tie.Need-loop-holds Inv-loop μ-loop
 unfolding grammarOf
-loop-holds c = (search needs, c .wide .ensures ∙ c .before .two-at .ensures, rw sub-zero)
+loop-holds c = (search needs, c .two-at .ensures, rw sub-zero)
 
 read-symbol-requires : tie.Need-read-symbol-requires Inv-loop μ-loop
 read-symbol-requires c κs = search needs
@@ -51,15 +50,14 @@ handed-up-requires c κs = search needs
 returns : tie.Need-returns Inv-loop μ-loop
 unfolding whole
 returns c =
-    let bs = c .before .before .before .before .before .before .before .before .args .table .now in
+    let bs = c .before .before .before .before .before .before .before .args .table .now in
     let s = c .before .before .before .before .loop .s in
     let h : s < N bs = omega arith in
     let q = c .before .before .read-symbol .ensures in
-    let r = symbol-refused (symbol (grammarOf bs) s) (subst (λ r. OneOf (1 ∷ 2 ∷ 3 ∷ []) (tagOf the-type r)) q (c .before .match .keys2)) in
-    let e =
-    sym (c .before .before .before .before .loop .inv .2)
-    ∙ fails-in (symbolOk 8) (λ i. symbolIn bs (atSymbols + 2 * i)) s (N bs) h (ap (symbolOk 8) (sym (symbol-there bs s h)) ∙ r .0) in
-    c .handed-up .ensures ∙ ap handedUp q ∙ r .1 ∙ ap (whole 4) (sym e)
+    let t = subst (λ r. OneOf (1 ∷ 2 ∷ 3 ∷ []) (tagOf the-type r)) q (c .before .match .keys2) in
+    let bad = refused _ _ 4 (1 ∷ 2 ∷ 3 ∷ []) (miss (1 ∷ 2 ∷ 3 ∷ []) 0 tt) t in
+    let all = fails-in (symbolOk 8) (λ i. symbolIn bs (atSymbols + 2 * i)) s (N bs) h (ap (symbolOk 8) (sym (symbol-there bs s h)) ∙ bad) in
+    c .handed-up .ensures ∙ ap handedUp (q ∙ lost _ _ 4 bad) ∙ ap (whole 4) (sym all ∙ c .before .before .before .before .loop .inv .2)
 
 add-s : tie.Need-add-s Inv-loop μ-loop
 add-s c = search needs
@@ -69,19 +67,19 @@ loop-less c = search needs
 
 loop-again : tie.Need-loop-again Inv-loop μ-loop
 loop-again c =
-    let bs = c .before .before .before .before .before .before .before .before .args .table .now in
+    let bs = c .before .before .before .before .before .before .before .args .table .now in
     let s = c .before .before .before .before .loop .s in
     let h : s < N bs = omega arith in
-    let f = symbol-fine (symbol (grammarOf bs) s) _ (sym (c .before .before .read-symbol .ensures) ∙ c .enum-told .given .1) in (
+    let good = fine _ _ 4 _ (λ e. omega arith) (sym (c .before .before .read-symbol .ensures) ∙ c .enum-told .given .1) .0 in (
       omega arith,
       c .before .before .before .before .loop .inv .1,
-      passes-in (symbolOk 8) (λ i. symbolIn bs (atSymbols + 2 * i)) s (N bs) h (ap (symbolOk 8) (sym (symbol-there bs s h)) ∙ f) ∙ c .before .before .before .before .loop .inv .2,
+      passes-in (symbolOk 8) (λ i. symbolIn bs (atSymbols + 2 * i)) s (N bs) h (ap (symbolOk 8) (sym (symbol-there bs s h)) ∙ good) ∙ c .before .before .before .before .loop .inv .2,
     )
 
 returns-2 : tie.Need-returns-2 Inv-loop μ-loop
 unfolding whole
 returns-2 c =
-    let bs = c .before .before .before .before .before .args .table .now in
+    let bs = c .before .before .before .before .args .table .now in
     ap (whole 4) (sym (passes-range (symbolOk 8) (λ i. symbolIn bs (atSymbols + 2 * i)) (c .before .loop .s) (N bs) (omega arith)) ∙ c .before .loop .inv .2)
 
 pub check-symbols-spec : {M : Type 1} → statement M
@@ -91,7 +89,7 @@ check-symbols-spec =
     Inv-loop
     μ-loop
     two-at-requires
-    wide-requires
+    cast-count
     loop-holds
     read-symbol-requires
     enum-told

@@ -1,9 +1,11 @@
--- `grammar::counts_ok` meets its contract. Assumes nothing.
-use lib.Dec.{ltb}
+-- `grammar::counts_ok` meets its contract. Each return says what a table with counts in range would have had there. Assumes nothing.
+use mathlib.Core.Path.{sym, _∙_, ap₂}
 use native.Mathlib.Omega.{arith}
-use mathlib.Core.Path.{refl, sym, ap, _∙_, ap₂}
-use Rattle.grammar.proofs.Checking.{no-symbol, many-symbols, many-productions, many-edges, start-decides}
 use borrow.Author.Needs.{needs}
+use lib.Dec.{ltb}
+use Rattle.numbers.proofs.Decides.{not-so, same-test, lt-decides}
+use Rattle.grammar.specs.Table.{N, startOf}
+use Rattle.grammar.proofs.Decided.{counts-decide}
 use Rattle.grammar.proofs.counts_ok.Statement.{statement}
 use Rattle.grammar.proofs.counts_ok.Tie as tie
 
@@ -11,22 +13,22 @@ two-at-requires : tie.Need-two-at-requires
 two-at-requires c κs = search needs
 
 returns : tie.Need-returns
-returns c = sym (no-symbol (c .before .before .before .args .table .now) (omega arith))
+returns c = sym (not-so (counts-decide (c .before .before .before .args .table .now)) (λ r. omega arith))
 
 returns-2 : tie.Need-returns-2
-returns-2 c = sym (many-symbols (c .before .before .before .before .args .table .now) (omega arith))
+returns-2 c = sym (not-so (counts-decide (c .before .before .before .before .args .table .now)) (λ r. omega arith))
 
 two-at-requires-2 : tie.Need-two-at-requires-2
 two-at-requires-2 c κs = search needs
 
 returns-3 : tie.Need-returns-3
-returns-3 c = sym (many-productions (c .before .before .before .before .before .before .args .table .now) (omega arith))
+returns-3 c = sym (not-so (counts-decide (c .before .before .before .before .before .before .args .table .now)) (λ r. omega arith))
 
 two-at-requires-3 : tie.Need-two-at-requires-3
 two-at-requires-3 c κs = search needs
 
 returns-4 : tie.Need-returns-4
-returns-4 c = sym (many-edges (c .before .before .before .before .before .before .before .before .args .table .now) (omega arith))
+returns-4 c = sym (not-so (counts-decide (c .before .before .before .before .before .before .before .before .args .table .now)) (λ r. omega arith))
 
 two-at-requires-4 : tie.Need-two-at-requires-4
 two-at-requires-4 c κs = search needs
@@ -35,7 +37,11 @@ returns-5 : tie.Need-returns-5
 returns-5 c =
     let bs = c .before .before .before .before .before .before .before .before .before .args .table .now in
     ap₂ ltb (c .two-at4 .ensures) (c .before .before .before .before .before .before .before .two-at .ensures)
-    ∙ sym (start-decides bs (omega arith) (omega arith) (omega arith) (omega arith))
+    ∙ same-test
+    (lt-decides (startOf bs) (N bs))
+    (counts-decide bs)
+    (λ h. record { some-symbol = omega arith; symbols = omega arith; productions = omega arith; edges = omega arith; start = h })
+    (λ r. r .start)
 
 pub counts-ok-spec : {M : Type 1} → statement M
 counts-ok-spec =

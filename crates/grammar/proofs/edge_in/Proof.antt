@@ -1,6 +1,6 @@
 -- `grammar::edge_in` meets its contract. Assumes nothing.
-use Rattle.grammar.specs.Table.{edgeIn}
 use borrow.Author.Needs.{needs}
+use Rattle.grammar.specs.Table.{edgeIn}
 use Rattle.grammar.proofs.edge_in.Statement.{statement}
 use Rattle.grammar.proofs.edge_in.Tie as tie
 

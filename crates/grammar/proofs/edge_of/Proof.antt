@@ -1,9 +1,9 @@
 -- `grammar::edge_of` meets its contract. Assumes nothing.
-use Rattle.grammar.proofs.Lookups.{edge-past}
+use mathlib.Core.Path.{sym, _∙_}
 use Prim.Native.Nat.{_*_}
 use native.Mathlib.Omega.{arith}
-use mathlib.Core.Path.{sym, _∙_}
 use borrow.Author.Needs.{needs}
+use Rattle.grammar.proofs.Lookups.{edge-past}
 use Rattle.grammar.proofs.edge_of.Statement.{statement}
 use Rattle.grammar.proofs.edge_of.Tie as tie
 

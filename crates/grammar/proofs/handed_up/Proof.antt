@@ -1,7 +1,7 @@
 -- `grammar::handed_up` meets its contract. Assumes nothing.
-use Rattle.grammar.specs.Steps.{handedUp}
 use mathlib.Core.Path.{sym, ap}
 use borrow.Author.Needs.{needs}
+use Rattle.grammar.specs.Steps.{handedUp}
 use Rattle.grammar.proofs.handed_up.Statement.{statement}
 use Rattle.grammar.proofs.handed_up.Tie as tie
 

@@ -1,7 +1,7 @@
 -- `grammar::in_order` meets its contract. Assumes nothing.
 use mathlib.Core.Path.{_∙_}
-use Rattle.grammar.proofs.Checking.{order-first, order-later}
 use borrow.Author.Needs.{needs}
+use Rattle.grammar.proofs.Handing.{order-first, order-later}
 use Rattle.grammar.proofs.in_order.Statement.{statement}
 use Rattle.grammar.proofs.in_order.Tie as tie
 

@@ -1,6 +1,6 @@
 -- `grammar::inherited` meets its contract. Assumes nothing.
-use Rattle.grammar.proofs.Checking.{bit-beyond}
 use borrow.Author.Needs.{needs}
+use Rattle.grammar.proofs.Occurrences.{bit-beyond}
 use Rattle.grammar.proofs.inherited.Statement.{statement}
 use Rattle.grammar.proofs.inherited.Tie as tie
 

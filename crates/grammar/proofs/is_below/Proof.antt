@@ -1,6 +1,6 @@
 -- `grammar::is_below` meets its contract. Assumes nothing.
 use mathlib.Core.Path.{sym, _∙_}
-use Rattle.grammar.proofs.Checking.{below-differ, below-same, below-last}
+use Rattle.numbers.proofs.Ordered.{below-differ, below-same, below-last}
 use Rattle.grammar.proofs.is_below.Statement.{statement}
 use Rattle.grammar.proofs.is_below.Tie as tie
 

@@ -1,7 +1,7 @@
 -- `grammar::production_in` meets its contract. Assumes nothing.
 use mathlib.Core.Path.{sym, _∙_}
-use Rattle.grammar.specs.Table.{productionIn}
 use borrow.Author.Needs.{needs}
+use Rattle.grammar.specs.Table.{productionIn}
 use Rattle.grammar.proofs.Lookups.{slots-are, slots-by}
 use Rattle.grammar.proofs.production_in.Statement.{statement}
 use Rattle.grammar.proofs.production_in.Tie as tie
@@ -61,12 +61,17 @@ returns : tie.Need-returns
 unfolding productionIn
 returns c =
     let a = c .before .before .before .before .before .before .before .before .before .before .args in
-    λ i.
-    record {
-      left = c .before .two-at8 .ensures i;
-      n = c .two-at9 .ensures i;
-      slots = (slots-by (c .before .before .before .before .before .before .before .before .two-at .ensures) (c .before .before .before .before .before .before .before .two-at2 .ensures) (c .before .before .before .before .before .before .two-at3 .ensures) (c .before .before .before .before .before .two-at4 .ensures) (c .before .before .before .before .two-at5 .ensures) (c .before .before .before .two-at6 .ensures) (c .before .before .two-at7 .ensures) ∙ sym (slots-are (a .table .now) (a .at))) i;
-    }
+    let slots =
+    slots-by
+    (c .before .before .before .before .before .before .before .before .two-at .ensures)
+    (c .before .before .before .before .before .before .before .two-at2 .ensures)
+    (c .before .before .before .before .before .before .two-at3 .ensures)
+    (c .before .before .before .before .before .two-at4 .ensures)
+    (c .before .before .before .before .two-at5 .ensures)
+    (c .before .before .before .two-at6 .ensures)
+    (c .before .before .two-at7 .ensures)
+    ∙ sym (slots-are (a .table .now) (a .at)) in
+    λ i. record { left = c .before .two-at8 .ensures i; n = c .two-at9 .ensures i; slots = slots i }
 
 pub production-in-spec : {M : Type 1} → statement M
 production-in-spec =

@@ -1,23 +1,24 @@
 -- `grammar::production_of` meets its contract. Assumes nothing.
-use Rattle.grammar.specs.Table.{productionIn}
-use Prim.Native.Nat.{_+_, _*_}
 use mathlib.Core.Path.{sym, ap, _∙_}
+use Prim.Native.Nat.{_+_, _*_}
 use native.Mathlib.Omega.{arith}
-use Rattle.grammar.proofs.Lookups.{production-there, production-none}
 use borrow.Author.Needs.{needs}
+use Rattle.grammar.specs.Table.{productionIn}
+use Rattle.grammar.proofs.Lookups.{production-there, production-none}
 use Rattle.grammar.proofs.production_of.Statement.{statement}
 use Rattle.grammar.proofs.production_of.Tie as tie
 
 header-of-requires : tie.Need-header-of-requires
 header-of-requires c κs = search needs
 
-wide-requires : tie.Need-wide-requires
-wide-requires c κs = search needs
+cast-if1 : tie.Need-cast-if1
+cast-if1 c = search needs
 
 returns : tie.Need-returns
 returns c =
-    let e = ap (λ h. h .productions) (c .before .before .header-of .ensures) in
-    sym (production-none (c .before .before .before .before .args .table .now) (c .before .before .before .before .args .p) (omega arith))
+    let a = c .before .before .before .before .args in
+    let many = ap (λ h. h .productions) (c .before .before .header-of .ensures) in
+    sym (production-none (a .table .now) (a .p) (omega arith))
 
 at-productions-requires : tie.Need-at-productions-requires
 at-productions-requires c κs = search needs
@@ -46,7 +47,7 @@ production-of-spec =
     tie.close
     (tie.spec
     header-of-requires
-    wide-requires
+    cast-if1
     returns
     at-productions-requires
     mul-production-in

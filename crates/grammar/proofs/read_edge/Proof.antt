@@ -1,10 +1,11 @@
 -- `grammar::read_edge` meets its contract. Assumes nothing.
-use Rattle.grammar.proofs.Checking.{edge-bad, edge-low, edge-kept}
-use Rattle.grammar.specs.Table.{atEdges, edgeIn}
+use mathlib.Core.Path.{sym, ap, _∙_}
 use Prim.Native.Nat.{_+_, _*_}
 use borrow.Author.Tests.{not-true, not-false}
-use mathlib.Core.Path.{_≡_, sym, ap, _∙_}
 use borrow.Author.Needs.{needs}
+use Rattle.grammar.specs.Steps.{edgeRead}
+use Rattle.grammar.specs.Table.{edgeIn}
+use Rattle.grammar.proofs.Handing.{kept, lost}
 use Rattle.grammar.proofs.read_edge.Statement.{statement}
 use Rattle.grammar.proofs.read_edge.Tie as tie
 
@@ -29,10 +30,10 @@ edge-ok-requires c κs = search needs
 returns : tie.Need-returns
 returns c =
     let a = c .before .before .before .before .before .before .args in
-    let h = c .before .before .before .before .header-of .ensures in
-    let at : c .before .before .before .at-edges .result ≡ atEdges (a .table .now) = c .before .before .before .at-edges .ensures ∙ ap (λ h. 24 + 2 * h .symbols + 18 * h .productions) h in
+    let at = c .before .before .before .at-edges .ensures ∙ ap (λ h. 24 + 2 * h .symbols + 18 * h .productions) (c .before .before .before .before .header-of .ensures) in
     let q = c .before .before .edge-in .ensures ∙ ap (λ at. edgeIn (a .table .now) (at + 6 * a .i)) at in
-    sym (edge-bad (a .table .now) (a .i) (a .before) _ q (sym (c .before .edge-ok .ensures) ∙ not-true _ (c .if1 .taken)))
+    let bad = sym (c .before .edge-ok .ensures) ∙ not-true _ (c .if1 .taken) in
+    sym (lost _ _ 6 bad) ∙ ap (edgeRead (a .table .now) (a .i) (a .before)) q
 
 in-order-requires : tie.Need-in-order-requires
 in-order-requires c κs = search needs
@@ -40,34 +41,20 @@ in-order-requires c κs = search needs
 returns-2 : tie.Need-returns-2
 returns-2 c =
     let a = c .before .before .before .before .before .before .before .before .args in
-    let h = c .before .before .before .before .before .before .header-of .ensures in
-    let at : c .before .before .before .before .before .at-edges .result ≡ atEdges (a .table .now) = c .before .before .before .before .before .at-edges .ensures ∙ ap (λ h. 24 + 2 * h .symbols + 18 * h .productions) h in
+    let at = c .before .before .before .before .before .at-edges .ensures ∙ ap (λ h. 24 + 2 * h .symbols + 18 * h .productions) (c .before .before .before .before .before .before .header-of .ensures) in
     let q = c .before .before .before .before .edge-in .ensures ∙ ap (λ at. edgeIn (a .table .now) (at + 6 * a .i)) at in
-    sym
-    (edge-low
-    (a .table .now)
-    (a .i)
-    (a .before)
-    _
-    q
-    (sym (c .before .before .before .edge-ok .ensures) ∙ not-false _ (c .before .before .if1 .left))
-    (sym (c .before .in-order .ensures) ∙ not-true _ (c .if2 .taken)))
+    let good = sym (c .before .before .before .edge-ok .ensures) ∙ not-false _ (c .before .before .if1 .left) in
+    let low = sym (c .before .in-order .ensures) ∙ not-true _ (c .if2 .taken) in
+    sym (kept _ _ 6 good ∙ lost _ _ 7 low) ∙ ap (edgeRead (a .table .now) (a .i) (a .before)) q
 
 returns-3 : tie.Need-returns-3
 returns-3 c =
     let a = c .before .before .before .before .before .before .before .before .args in
-    let h = c .before .before .before .before .before .before .header-of .ensures in
-    let at : c .before .before .before .before .before .at-edges .result ≡ atEdges (a .table .now) = c .before .before .before .before .before .at-edges .ensures ∙ ap (λ h. 24 + 2 * h .symbols + 18 * h .productions) h in
+    let at = c .before .before .before .before .before .at-edges .ensures ∙ ap (λ h. 24 + 2 * h .symbols + 18 * h .productions) (c .before .before .before .before .before .before .header-of .ensures) in
     let q = c .before .before .before .before .edge-in .ensures ∙ ap (λ at. edgeIn (a .table .now) (at + 6 * a .i)) at in
-    sym
-    (edge-kept
-    (a .table .now)
-    (a .i)
-    (a .before)
-    _
-    q
-    (sym (c .before .before .before .edge-ok .ensures) ∙ not-false _ (c .before .before .if1 .left))
-    (sym (c .before .in-order .ensures) ∙ not-false _ (c .if2 .left)))
+    let good = sym (c .before .before .before .edge-ok .ensures) ∙ not-false _ (c .before .before .if1 .left) in
+    let above = sym (c .before .in-order .ensures) ∙ not-false _ (c .if2 .left) in
+    sym (kept _ _ 6 good ∙ kept _ _ 7 above) ∙ ap (edgeRead (a .table .now) (a .i) (a .before)) q
 
 pub read-edge-spec : {M : Type 1} → statement M
 read-edge-spec =

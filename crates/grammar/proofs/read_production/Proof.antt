@@ -1,8 +1,9 @@
 -- `grammar::read_production` meets its contract. Assumes nothing.
-use Rattle.grammar.specs.Steps.{productionRead}
-use Rattle.grammar.proofs.Checking.{production-kept, production-lost}
 use mathlib.Core.Path.{sym, ap₂, _∙_}
 use borrow.Author.Needs.{needs}
+use Rattle.grammar.specs.declared.Read.{Read}
+use Rattle.grammar.specs.Steps.{productionRead}
+use Rattle.grammar.proofs.Handing.{kept, lost}
 use Rattle.grammar.proofs.read_production.Statement.{statement}
 use Rattle.grammar.proofs.read_production.Tie as tie
 
@@ -17,14 +18,14 @@ production-ok-requires c κs = search needs
 
 returns : tie.Need-returns
 returns c =
-    let t = sym (c .before .production-ok .ensures) ∙ c .if1 .taken in
-    sym (production-kept (c .before .before .two-at .result) (c .before .before .before .production-of .result) t)
+    let good = sym (c .before .production-ok .ensures) ∙ c .if1 .taken in
+    sym (kept _ (Read.Production (record { left = c .before .before .before .production-of .result .left; n = c .before .before .before .production-of .result .n })) 5 good)
     ∙ ap₂ productionRead (c .before .before .two-at .ensures) (c .before .before .before .production-of .ensures)
 
 returns-2 : tie.Need-returns-2
 returns-2 c =
-    let t = sym (c .before .production-ok .ensures) ∙ c .if1 .left in
-    sym (production-lost (c .before .before .two-at .result) (c .before .before .before .production-of .result) t)
+    let bad = sym (c .before .production-ok .ensures) ∙ c .if1 .left in
+    sym (lost _ (Read.Production (record { left = c .before .before .before .production-of .result .left; n = c .before .before .before .production-of .result .n })) 5 bad)
     ∙ ap₂ productionRead (c .before .before .two-at .ensures) (c .before .before .before .production-of .ensures)
 
 pub read-production-spec : {M : Type 1} → statement M

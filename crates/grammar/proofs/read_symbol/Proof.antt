@@ -1,8 +1,9 @@
 -- `grammar::read_symbol` meets its contract. Assumes nothing.
-use Rattle.grammar.specs.Steps.{symbolRead}
-use Rattle.grammar.proofs.Checking.{symbol-kept, symbol-lost}
 use mathlib.Core.Path.{sym, ap, _∙_}
 use borrow.Author.Needs.{needs}
+use Rattle.grammar.specs.declared.Read.{Read}
+use Rattle.grammar.specs.Steps.{symbolRead}
+use Rattle.grammar.proofs.Handing.{kept, lost}
 use Rattle.grammar.proofs.read_symbol.Statement.{statement}
 use Rattle.grammar.proofs.read_symbol.Tie as tie
 
@@ -14,13 +15,13 @@ symbol-ok-requires c κs = search needs
 
 returns : tie.Need-returns
 returns c =
-    let t = sym (c .before .symbol-ok .ensures) ∙ c .if1 .taken in
-    sym (symbol-kept (c .before .before .symbol-of .result) t) ∙ ap symbolRead (c .before .before .symbol-of .ensures)
+    let good = sym (c .before .symbol-ok .ensures) ∙ c .if1 .taken in
+    sym (kept _ (Read.Symbol (c .before .before .symbol-of .result)) 4 good) ∙ ap symbolRead (c .before .before .symbol-of .ensures)
 
 returns-2 : tie.Need-returns-2
 returns-2 c =
-    let t = sym (c .before .symbol-ok .ensures) ∙ c .if1 .left in
-    sym (symbol-lost (c .before .before .symbol-of .result) t) ∙ ap symbolRead (c .before .before .symbol-of .ensures)
+    let bad = sym (c .before .symbol-ok .ensures) ∙ c .if1 .left in
+    sym (lost _ (Read.Symbol (c .before .before .symbol-of .result)) 4 bad) ∙ ap symbolRead (c .before .before .symbol-of .ensures)
 
 pub read-symbol-spec : {M : Type 1} → statement M
 read-symbol-spec = tie.close (tie.spec symbol-of-requires symbol-ok-requires returns returns-2)

@@ -1,14 +1,14 @@
--- `grammar::rights_ok` meets its contract. Assumes nothing.
-use Rattle.numbers.proofs.Every.{passes-at, fails-at, passes-all}
-use Rattle.numbers.specs.Lists.{every}
+-- `grammar::rights_ok` meets its contract. What is left of the first n slots, from k on, passes the test exactly if all of them do. Assumes nothing.
+use mathlib.Core.Path.{_≡_, refl, sym, ap, _∙_}
+use Prim.Native.Nat.{_≤_, _-_}
+use native.Mathlib.Omega.{arith}
+use borrow.Author.Tests.{le-ltb, lt-ltb}
+use borrow.Author.Needs.{needs}
 use lib.Seq.{getD-take}
 use lib.ListN.{length, take, drop, length-take}
 use lib.Dec.{ltb}
-use borrow.Author.Tests.{le-ltb, lt-ltb}
-use native.Mathlib.Omega.{arith}
-use Prim.Native.Nat.{_≤_, _-_}
-use mathlib.Core.Path.{_≡_, refl, sym, ap, _∙_}
-use borrow.Author.Needs.{needs}
+use Rattle.numbers.specs.Lists.{every}
+use Rattle.numbers.proofs.Every.{passes-at, fails-at, passes-all}
 use Rattle.grammar.proofs.rights_ok.Statement.{statement}
 use Rattle.grammar.proofs.rights_ok.Tie as tie
 
@@ -19,11 +19,8 @@ Inv-loop n symbols slots end k₀ k =
 abbrev μ-loop : tie.MeasureT-loop
 μ-loop n symbols slots end k₀ k = n - k
 
-wide-requires : tie.Need-wide-requires Inv-loop μ-loop
-wide-requires c κs = search needs
-
 loop-holds : tie.Need-loop-holds Inv-loop μ-loop
-loop-holds c = (search needs, c .wide .ensures, refl)
+loop-holds c = (search needs, refl, refl)
 
 mul-if1 : tie.Need-mul-if1 Inv-loop μ-loop
 mul-if1 c = search needs
@@ -33,7 +30,7 @@ array-read-if1 c = search needs
 
 returns : tie.Need-returns Inv-loop μ-loop
 returns c =
-    let a = c .before .before .before .before .args in
+    let a = c .before .before .before .args in
     let k = c .before .before .loop .k in
     let long : length (a .t1) ≡ 7 = search needs in
     let f = ap (λ s. ltb s (a .symbols)) (getD-take (a .n) (a .t1) k 0 (omega arith)) ∙ le-ltb _ _ (c .if1 .taken) in
@@ -49,19 +46,19 @@ loop-less c = search needs
 
 loop-again : tie.Need-loop-again Inv-loop μ-loop
 loop-again c =
-    let a = c .before .before .before .before .args in
+    let a = c .before .before .before .args in
     let k = c .before .before .loop .k in
     let long : length (a .t1) ≡ 7 = search needs in
     let f = ap (λ s. ltb s (a .symbols)) (getD-take (a .n) (a .t1) k 0 (omega arith)) ∙ lt-ltb _ _ (c .if1 .left) in (
       omega arith,
-      c .before .before .loop .inv .1,
+      refl,
       passes-at (λ s. ltb s (a .symbols)) (take (a .n) (a .t1)) 0 k (omega (arith, length-take (a .n) (a .t1))) f
           ∙ c .before .before .loop .inv .2,
     )
 
 returns-2 : tie.Need-returns-2 Inv-loop μ-loop
 returns-2 c =
-    let a = c .before .before .before .args in
+    let a = c .before .before .args in
     sym
     (sym (c .before .loop .inv .2)
     ∙ passes-all (λ s. ltb s (a .symbols)) (take (a .n) (a .t1)) 0 (c .before .loop .k) (omega (arith, length-take (a .n) (a .t1))))
@@ -72,7 +69,6 @@ rights-ok-spec =
     (tie.spec
     Inv-loop
     μ-loop
-    wide-requires
     loop-holds
     mul-if1
     array-read-if1

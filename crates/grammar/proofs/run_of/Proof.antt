@@ -1,19 +1,18 @@
 -- `grammar::run_of` meets its contract. Assumes nothing.
-use Rattle.grammar.proofs.Seeking.{run-none, run-found}
-use Rattle.grammar.specs.Table.{atEdges}
-use lib.ListN.{length}
-use Prim.Native.Nat.{_+_, _*_, min}
+use mathlib.Core.Path.{sym, ap, ap₂, _∙_}
+use Prim.Native.Nat.{_+_, _-_, _*_, min}
 use native.Mathlib.Omega.{arith}
-use mathlib.Core.Path.{_≡_, sym, ap, _∙_}
 use borrow.Author.Needs.{needs}
+use lib.ListN.{length, take, drop}
+use Rattle.grammar.proofs.Seeking.{run-none, run-found}
 use Rattle.grammar.proofs.run_of.Statement.{statement}
 use Rattle.grammar.proofs.run_of.Tie as tie
 
 header-of-requires : tie.Need-header-of-requires
 header-of-requires c κs = search needs
 
-wide-requires : tie.Need-wide-requires
-wide-requires c κs = search needs
+cast-if1 : tie.Need-cast-if1
+cast-if1 c = search needs
 
 slice-aggregate-result : tie.Need-slice-aggregate-result
 slice-aggregate-result c = search needs
@@ -44,9 +43,6 @@ add-within c = search needs
 within-requires : tie.Need-within-requires
 within-requires c κs = search needs
 
-at-edges-requires-2 : tie.Need-at-edges-requires-2
-at-edges-requires-2 c κs = search needs
-
 mul-within-2 : tie.Need-mul-within-2
 mul-within-2 c = search needs
 
@@ -67,24 +63,23 @@ part-result-end c = search needs
 
 returns-2 : tie.Need-returns-2
 returns-2 c =
-    let bs = c .before .before .before .before .before .before .before .before .before .before .before .args .table .now in
-    let h = c .before .before .before .before .before .before .before .before .before .header-of .ensures in
+    let bs = c .before .before .before .before .before .before .before .before .before .before .args .table .now in
+    let h = c .before .before .before .before .before .before .before .before .header-of .ensures in
     let many = ap (λ h. h .productions) h in
-    let at = c .before .before .before .before .at-edges .ensures ∙ ap (λ h. 24 + 2 * h .symbols + 18 * h .productions) h in
-    let at2 = c .before .before .at-edges2 .ensures ∙ ap (λ h. 24 + 2 * h .symbols + 18 * h .productions) h in
-    let first = c .before .before .before .before .before .before .seek-from .result in
-    let end = c .before .before .before .before .before .seek-from2 .result in
-    let a = c .before .before .before .within .ensures ∙ ap (λ at. min (at + 6 * first) (length bs)) at in
-    let e = c .before .within2 .ensures ∙ ap (λ at. min (at + 6 * end) (length bs)) at2 in
-    rw (a, e)
-    (run-found bs (c .before .before .before .before .before .before .before .before .before .before .before .args .p) first end (omega arith) (c .before .before .before .before .before .before .seek-from .ensures .0) (c .before .before .before .before .before .seek-from2 .ensures .0) (c .before .before .before .before .before .seek-from2 .ensures .1))
+    let at = c .before .before .before .at-edges .ensures ∙ ap (λ h. 24 + 2 * h .symbols + 18 * h .productions) h in
+    let first = c .before .before .before .before .before .seek-from in
+    let end = c .before .before .before .before .seek-from2 in
+    let a = c .before .before .within .ensures ∙ ap (λ at. min (at + 6 * first .result) (length bs)) at in
+    let e = c .before .within2 .ensures ∙ ap (λ at. min (at + 6 * end .result) (length bs)) at in
+    ap₂ (λ a e. take (e - a) (drop a bs)) a e
+    ∙ run-found bs (c .before .before .before .before .before .before .before .before .before .before .args .p) _ _ (omega arith) (first .ensures .0) (end .ensures .0) (end .ensures .1)
 
 pub run-of-spec : {M : Type 1} → statement M
 run-of-spec =
     tie.close
     (tie.spec
     header-of-requires
-    wide-requires
+    cast-if1
     slice-aggregate-result
     returns
     seek-from-requires
@@ -94,7 +89,6 @@ run-of-spec =
     mul-within
     add-within
     within-requires
-    at-edges-requires-2
     mul-within-2
     add-within-2
     within-requires-2

@@ -1,10 +1,10 @@
--- `grammar::seek_from` meets its contract. Assumes nothing.
-use Rattle.grammar.proofs.Seeking.{further-ahead, further-inside, seek-none, seek-more, shifted, step-range}
-use Rattle.grammar.specs.Reading.{further, seek}
-use Prim.Native.Nat.{_≤_, _-_, _^_}
-use borrow.Author.Needs.{needs}
-use native.Mathlib.Omega.{arith}
+-- `grammar::seek_from` meets its contract. The steps that are left, from where the search stands, lead where all of them lead. Assumes nothing.
 use mathlib.Core.Path.{_≡_, refl, sym, ap, _∙_}
+use Prim.Native.Nat.{_≤_, _-_, _^_}
+use native.Mathlib.Omega.{arith}
+use borrow.Author.Needs.{needs}
+use Rattle.grammar.specs.Reading.{further, seek}
+use Rattle.grammar.proofs.Seeking.{further-ahead, further-inside, seek-none, seek-more, shifted, step-range}
 use Rattle.grammar.proofs.seek_from.Statement.{statement}
 use Rattle.grammar.proofs.seek_from.Tie as tie
 

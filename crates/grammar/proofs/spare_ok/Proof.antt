@@ -1,13 +1,13 @@
--- `grammar::spare_ok` meets its contract. Assumes nothing.
-use Rattle.numbers.proofs.Every.{passes-at, fails-at, passes-all}
-use Rattle.numbers.specs.Lists.{every}
+-- `grammar::spare_ok` meets its contract. What is left of the slots, from k on, passes the test exactly if all from n on do. Assumes nothing.
+use mathlib.Core.Path.{_≡_, refl, sym, _∙_}
+use Prim.Native.Nat.{_≤_, _-_}
+use native.Mathlib.Omega.{arith}
+use borrow.Author.Tests.{ne-eqb, eq-eqb}
+use borrow.Author.Needs.{needs}
 use lib.ListN.{length, drop}
 use lib.Dec.{eqb}
-use borrow.Author.Tests.{ne-eqb, eq-eqb}
-use native.Mathlib.Omega.{arith}
-use Prim.Native.Nat.{_≤_, _-_}
-use mathlib.Core.Path.{_≡_, sym, ap, _∙_}
-use borrow.Author.Needs.{needs}
+use Rattle.numbers.specs.Lists.{every}
+use Rattle.numbers.proofs.Every.{passes-at, fails-at, passes-all}
 use Rattle.grammar.proofs.spare_ok.Statement.{statement}
 use Rattle.grammar.proofs.spare_ok.Tie as tie
 
@@ -18,11 +18,8 @@ Inv-loop n slots k₀ k =
 abbrev μ-loop : tie.MeasureT-loop
 μ-loop n slots k₀ k = 7 - k
 
-wide-requires : tie.Need-wide-requires Inv-loop μ-loop
-wide-requires c κs = search needs
-
 loop-holds : tie.Need-loop-holds Inv-loop μ-loop
-loop-holds c = (omega arith, omega arith, ap (λ k. every (λ s. eqb s 0) (drop k (c .before .args .t1))) (c .wide .ensures))
+loop-holds c = (search needs, search needs, refl)
 
 mul-if1 : tie.Need-mul-if1 Inv-loop μ-loop
 mul-if1 c = search needs
@@ -32,7 +29,7 @@ array-read-if1 c = search needs
 
 returns : tie.Need-returns Inv-loop μ-loop
 returns c =
-    let a = c .before .before .before .before .args in
+    let a = c .before .before .before .args in
     let k = c .before .before .loop .k in
     let long : length (a .t1) ≡ 7 = search needs in
     sym
@@ -47,7 +44,7 @@ loop-less c = search needs
 
 loop-again : tie.Need-loop-again Inv-loop μ-loop
 loop-again c =
-    let a = c .before .before .before .before .args in
+    let a = c .before .before .before .args in
     let k = c .before .before .loop .k in
     let long : length (a .t1) ≡ 7 = search needs in (
       omega arith,
@@ -57,7 +54,7 @@ loop-again c =
 
 returns-2 : tie.Need-returns-2 Inv-loop μ-loop
 returns-2 c =
-    let a = c .before .before .before .args in
+    let a = c .before .before .args in
     let long : length (a .t1) ≡ 7 = search needs in
     sym (sym (c .before .loop .inv .2) ∙ passes-all (λ s. eqb s 0) (a .t1) 0 (c .before .loop .k) (omega arith))
 
@@ -67,7 +64,6 @@ spare-ok-spec =
     (tie.spec
     Inv-loop
     μ-loop
-    wide-requires
     loop-holds
     mul-if1
     array-read-if1

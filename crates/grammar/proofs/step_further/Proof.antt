@@ -1,19 +1,19 @@
 -- `grammar::step_further` meets its contract. Assumes nothing.
+use mathlib.Core.Path.{_≡_, sym, ap, _∙_}
+use Prim.Native.Nat.{_+_, _-_, _*_}
+use native.Mathlib.Omega.{arith}
+use borrow.Author.Needs.{needs}
 use Rattle.numbers.specs.Number.{le2}
 use Rattle.grammar.specs.Reading.{producing}
 use Rattle.grammar.proofs.Seeking.{further-few, further-on, further-not}
-use Prim.Native.Nat.{_+_, _-_, _*_}
-use native.Mathlib.Omega.{arith}
-use mathlib.Core.Path.{_≡_, sym, ap, _∙_}
-use borrow.Author.Needs.{needs}
 use Rattle.grammar.proofs.step_further.Statement.{statement}
 use Rattle.grammar.proofs.step_further.Tie as tie
 
 add-next : tie.Need-add-next
 add-next c = search needs
 
-wide-requires : tie.Need-wide-requires
-wide-requires c κs = search needs
+cast-if1 : tie.Need-cast-if1
+cast-if1 c = search needs
 
 returns : tie.Need-returns
 returns c =
@@ -36,25 +36,25 @@ add-two-at c = search needs
 two-at-requires : tie.Need-two-at-requires
 two-at-requires c κs = search needs
 
-wide-requires-2 : tie.Need-wide-requires-2
-wide-requires-2 c κs = search needs
+cast-if2 : tie.Need-cast-if2
+cast-if2 c = search needs
 
 returns-2 : tie.Need-returns-2
 returns-2 c =
-    let a = c .before .before .before .before .before .before .before .args in
-    let h = c .before .before .before .before .before .before .before .pre .0 in
+    let a = c .before .before .before .before .before .before .args in
+    let h = c .before .before .before .before .before .before .pre .0 in
     let e = ap (λ h. h .edges) h in
-    let at = c .before .before .before .at-edges .ensures ∙ ap (λ h. 24 + 2 * h .symbols + 18 * h .productions) h in
-    let last : c .before .before .two-at .result ≡ producing (a .table .now) (a .at + a .step - 1) = c .before .before .two-at .ensures ∙ ap (λ at. le2 (a .table .now) (at + 6 * (a .at + a .step - 1))) at in
+    let at = c .before .before .at-edges .ensures ∙ ap (λ h. 24 + 2 * h .symbols + 18 * h .productions) h in
+    let last : c .before .two-at .result ≡ producing (a .table .now) (a .at + a .step - 1) = c .before .two-at .ensures ∙ ap (λ at. le2 (a .table .now) (at + 6 * (a .at + a .step - 1))) at in
     sym (further-on (a .table .now) (a .p) (a .step) (a .at) (omega arith) (omega arith))
 
 returns-3 : tie.Need-returns-3
 returns-3 c =
-    let a = c .before .before .before .before .before .before .before .args in
-    let h = c .before .before .before .before .before .before .before .pre .0 in
+    let a = c .before .before .before .before .before .before .args in
+    let h = c .before .before .before .before .before .before .pre .0 in
     let e = ap (λ h. h .edges) h in
-    let at = c .before .before .before .at-edges .ensures ∙ ap (λ h. 24 + 2 * h .symbols + 18 * h .productions) h in
-    let last : c .before .before .two-at .result ≡ producing (a .table .now) (a .at + a .step - 1) = c .before .before .two-at .ensures ∙ ap (λ at. le2 (a .table .now) (at + 6 * (a .at + a .step - 1))) at in
+    let at = c .before .before .at-edges .ensures ∙ ap (λ h. 24 + 2 * h .symbols + 18 * h .productions) h in
+    let last : c .before .two-at .result ≡ producing (a .table .now) (a .at + a .step - 1) = c .before .two-at .ensures ∙ ap (λ at. le2 (a .table .now) (at + 6 * (a .at + a .step - 1))) at in
     sym (further-not (a .table .now) (a .p) (a .step) (a .at) (omega arith) (omega arith))
 
 pub step-further-spec : {M : Type 1} → statement M
@@ -62,13 +62,13 @@ step-further-spec =
     tie.close
     (tie.spec
     add-next
-    wide-requires
+    cast-if1
     returns
     at-edges-requires
     sub-two-at
     mul-two-at
     add-two-at
     two-at-requires
-    wide-requires-2
+    cast-if2
     returns-2
     returns-3)

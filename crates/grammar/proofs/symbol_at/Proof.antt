@@ -1,9 +1,9 @@
 -- `grammar::symbol_at` meets its contract. Assumes nothing.
-use lib.ListN.{length}
 use mathlib.Core.Path.{_≡_}
 use native.Mathlib.Omega.{arith}
-use Rattle.grammar.proofs.Checking.{at-left, at-right, at-none, at-slot-none}
 use borrow.Author.Needs.{needs}
+use lib.ListN.{length}
+use Rattle.grammar.proofs.Occurrences.{at-left, at-right, at-none, at-slot-none}
 use Rattle.grammar.proofs.symbol_at.Statement.{statement}
 use Rattle.grammar.proofs.symbol_at.Tie as tie
 
@@ -16,16 +16,17 @@ sub-k c = search needs
 cast-k : tie.Need-cast-k
 cast-k c = search needs
 
-wide-requires : tie.Need-wide-requires
-wide-requires c κs = search needs
+cast-if2 : tie.Need-cast-if2
+cast-if2 c = search needs
 
 returns-2 : tie.Need-returns-2
 returns-2 c = at-none (c .before .before .before .args .p) (c .before .before .before .args .occurrence) (c .before .before .if1 .left) (omega arith)
 
 returns-3 : tie.Need-returns-3
 returns-3 c =
-    let long : length (c .before .before .before .before .args .p .slots) ≡ 7 = search needs in
-    at-slot-none (c .before .before .before .before .args .p) (c .before .before .before .before .args .occurrence) (c .before .before .before .if1 .left) (omega (arith, long))
+    let a = c .before .before .before .before .args in
+    let long : length (a .p .slots) ≡ 7 = search needs in
+    at-slot-none (a .p) (a .occurrence) (c .before .before .before .if1 .left) (omega arith)
 
 mul-result : tie.Need-mul-result
 mul-result c = search needs
@@ -43,7 +44,7 @@ symbol-at-spec =
     returns
     sub-k
     cast-k
-    wide-requires
+    cast-if2
     returns-2
     returns-3
     mul-result

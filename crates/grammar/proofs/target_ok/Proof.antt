@@ -1,9 +1,9 @@
 -- `grammar::target_ok` meets its contract. Assumes nothing.
-use Rattle.numbers.specs.Number.{bit}
-use Rattle.grammar.proofs.Checking.{allowed-left, allowed-right}
-use lib.Dec.{eqb}
 use mathlib.Core.Path.{ap, _∙_}
 use borrow.Author.Needs.{needs}
+use lib.Dec.{eqb}
+use Rattle.numbers.specs.Number.{bit}
+use Rattle.grammar.proofs.Occurrences.{allowed-left, allowed-right}
 use Rattle.grammar.proofs.target_ok.Statement.{statement}
 use Rattle.grammar.proofs.target_ok.Tie as tie
 

@@ -1,6 +1,6 @@
 -- `numbers::byte_at` meets its contract. Assumes nothing.
-use borrow.Author.Needs.{needs}
 use mathlib.Core.Path.{sym}
+use borrow.Author.Needs.{needs}
 use Rattle.numbers.proofs.Bytes.{byte-past}
 use Rattle.numbers.proofs.byte_at.Statement.{statement}
 use Rattle.numbers.proofs.byte_at.Tie as tie

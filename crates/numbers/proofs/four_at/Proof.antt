@@ -1,6 +1,6 @@
 -- `numbers::four_at` meets its contract. Assumes nothing.
-use borrow.Author.Needs.{needs}
 use mathlib.Core.Path.{sym}
+use borrow.Author.Needs.{needs}
 use Rattle.numbers.proofs.Bytes.{le4-past}
 use Rattle.numbers.proofs.four_at.Statement.{statement}
 use Rattle.numbers.proofs.four_at.Tie as tie
@@ -11,8 +11,8 @@ returns c = sym (le4-past (c .before .before .args .b .now) (c .before .before .
 two-at-requires : tie.Need-two-at-requires
 two-at-requires c κs = search needs
 
-wide32-requires : tie.Need-wide32-requires
-wide32-requires c κs = search needs
+cast-result : tie.Need-cast-result
+cast-result c = search needs
 
 add-two-at : tie.Need-add-two-at
 add-two-at c = search needs
@@ -20,8 +20,8 @@ add-two-at c = search needs
 two-at-requires-2 : tie.Need-two-at-requires-2
 two-at-requires-2 c κs = search needs
 
-wide32-requires-2 : tie.Need-wide32-requires-2
-wide32-requires-2 c κs = search needs
+cast-result-2 : tie.Need-cast-result-2
+cast-result-2 c = search needs
 
 mul-result : tie.Need-mul-result
 mul-result c = search needs
@@ -38,10 +38,10 @@ four-at-spec =
     (tie.spec
     returns
     two-at-requires
-    wide32-requires
+    cast-result
     add-two-at
     two-at-requires-2
-    wide32-requires-2
+    cast-result-2
     mul-result
     add-result
     returns-2)

@@ -1,6 +1,6 @@
 -- `numbers::two_at` meets its contract. Assumes nothing.
-use borrow.Author.Needs.{needs}
 use mathlib.Core.Path.{sym}
+use borrow.Author.Needs.{needs}
 use Rattle.numbers.proofs.Bytes.{le2-past}
 use Rattle.numbers.proofs.two_at.Statement.{statement}
 use Rattle.numbers.proofs.two_at.Tie as tie
@@ -11,8 +11,8 @@ returns c = sym (le2-past (c .before .before .args .b .now) (c .before .before .
 byte-at-requires : tie.Need-byte-at-requires
 byte-at-requires c κs = search needs
 
-wide16-requires : tie.Need-wide16-requires
-wide16-requires c κs = search needs
+cast-result : tie.Need-cast-result
+cast-result c = search needs
 
 add-byte-at : tie.Need-add-byte-at
 add-byte-at c = search needs
@@ -20,8 +20,8 @@ add-byte-at c = search needs
 byte-at-requires-2 : tie.Need-byte-at-requires-2
 byte-at-requires-2 c κs = search needs
 
-wide16-requires-2 : tie.Need-wide16-requires-2
-wide16-requires-2 c κs = search needs
+cast-result-2 : tie.Need-cast-result-2
+cast-result-2 c = search needs
 
 mul-result : tie.Need-mul-result
 mul-result c = search needs
@@ -38,10 +38,10 @@ two-at-spec =
     (tie.spec
     returns
     byte-at-requires
-    wide16-requires
+    cast-result
     add-byte-at
     byte-at-requires-2
-    wide16-requires-2
+    cast-result-2
     mul-result
     add-result
     returns-2)
