@@ -1,0 +1,8 @@
+-- Laws that belong to no one function.
+pub mod Walking
+pub mod InMemory
+pub mod Arrays
+pub mod Writing
+pub mod Outcome
+pub mod ByRecord
+pub mod OneReading
