@@ -1,3 +1,4 @@
--- The worked cases, and both sides of the table's borders.
+-- The worked cases, both sides of the table's borders, and growth.
 pub mod Cases
 pub mod Borders
+pub mod Growth

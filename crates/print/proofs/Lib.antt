@@ -1,0 +1,4 @@
+pub mod Placing
+pub mod Resting
+pub mod Stored
+pub mod Longer

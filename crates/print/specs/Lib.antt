@@ -1,0 +1,2 @@
+-- The text of a report in a lent buffer.
+pub mod Texts

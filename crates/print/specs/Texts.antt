@@ -1,0 +1,53 @@
+-- The text that `circ` prints, in a lent buffer. Assumes nothing.
+use mathlib.Core.Path.{_≡_}
+use mathlib.Core.Bool.{Bool, cond}
+use mathlib.Core.List.{List}
+use Prim.Native.Nat.{ℕ, _+_, _*_, _≤_}
+use lib.Dec.{leb}
+use lib.ListN.{length, take}
+use Rattle.numbers.specs.Lists.{both, written}
+use Rattle.grammar.specs.Grammar.{production}
+use Rattle.grammar.specs.Table.{grammarOf}
+use Rattle.rules.specs.declared.Report.{Report}
+use Rattle.rules.specs.declared.Entry.{Entry}
+use Rattle.rules.specs.Passes.{Outcome}
+use Rattle.rules.specs.Test.{test}
+use Rattle.lines.specs.Lines.{entryLine, printed, Written}
+use Rattle.passes.specs.Slices.{Slices, roomOf, Tells}
+use Rattle.passes.specs.Follow.{entriesTo}
+
+-- how many right symbols a production of the table has
+abbrev pub kidsIn : List ℕ → ℕ → ℕ
+kidsIn bs p = production (grammarOf bs) p .n
+
+-- ---- what is promised
+
+-- the outcome that a report and the entries at the front of the slices tell
+abbrev pub reported : Report → Slices → Outcome
+reported report σ = record { report = report; entries = entriesTo σ (report .entries) }
+
+-- the slices have room for the entries, and the buffer 128 bytes for the line of each and for two more
+abbrev pub enough : Report → Slices → List ℕ → Bool
+enough report σ old = both (leb (report .entries) (roomOf σ)) (leb (128 * (report .entries + 2)) (length old))
+
+-- the text over the front of the buffer, and how long it is; where there is not enough, the buffer as before, and 0
+pub record Printed (text : List ℕ) (ok : Bool) (old new : List ℕ) (r : ℕ) : Type 0 where
+  pub buffer : new ≡ cond ok (written text old) old
+  pub count : r ≡ cond ok (length text) 0
+
+-- the test of a table: what it stores is left in the slices, and what it comes to is printed
+pub record TestPrinted (bs : List ℕ) (limit : ℕ) (σ τ : Slices) (old new : List ℕ) (r : ℕ) : Type 0 where
+  pub stored : Tells (test 8 bs limit (roomOf σ)) σ (test 8 bs limit (roomOf σ) .report) τ
+  pub text :
+      Printed (printed (kidsIn bs) (test 8 bs limit (roomOf σ)))
+      (leb (128 * (length (test 8 bs limit (roomOf σ) .entries) + 2)) (length old)) old new r
+
+-- ---- on the way
+
+abbrev pub entryText : (ℕ → ℕ) → ℕ → Entry → List ℕ
+entryText n i e = entryLine i (e .symbol) (e .production) (take (n (e .production)) (e .kids)) (e .graph)
+
+-- a text of at most so many bytes, from `at` on where it fits
+pub record Placed (text : List ℕ) (most at : ℕ) (old new : List ℕ) (r : ℕ) : Type 0 where
+  pub written : Written text at old new r
+  pub short : length text ≤ most

@@ -1,0 +1,217 @@
+// What `circ` prints, as one text at the front of a buffer that the caller lends.
+ghost use mathlib.Core.Path.{_≡_};
+ghost use Prim.Native.Nat.{_+_, _*_, _/_, _≤_, _<_, min};
+ghost use lib.Dec.{leb};
+ghost use lib.ListN.{length, take, drop};
+ghost use Rattle.numbers.specs.Lists.{both};
+ghost use Rattle.lines.specs.Lines.{firstLine, rootLine, entryLines, rest, printed};
+ghost use Rattle.passes.specs.Slices.{slices, roomOf};
+ghost use Rattle.passes.specs.Follow.{entryAt, entriesTo};
+ghost use Rattle.print.specs.Texts.{kidsIn, entryText, Placed, enough, Printed, TestPrinted, reported};
+use rules::Answer;
+use rules::Report;
+
+fn wide(x: u16) -> usize
+    ensures { λ r. ⌜ r ≡ x ⌝ }
+{
+    x as usize
+}
+
+// How many kids the trees of a production have.
+fn kids_in(table: &[u8], p: u16) -> usize
+    ensures { λ r. ⌜ r ≡ kidsIn (now (table .entry)) p ⌝ }
+{
+    let production = grammar::production_of(table, wide(p));
+    wide(production.n)
+}
+
+// The seven slots from `at` on.
+fn slots_at(kids: &[u16], at: usize) -> [u16; 7]
+    requires { ⌜ at + 7 ≤ length (now kids) ⌝ }
+    ensures { λ r. ⌜ r ≡ take 7 (drop at (now (kids .entry))) ⌝ }
+{
+    let mut slots = [0u16; 7];
+    for k in 0..7 {
+        slots[k] = kids[at + k];
+    }
+    slots
+}
+
+fn first_line(buf: &mut [u8], report: Report) -> usize
+    ensures { λ r. ⌜ Placed (firstLine report) 128 0 (now (buf .entry)) (now (buf .exit)) r ⌝ }
+{
+    lines::put_first(buf, 0, report)
+}
+
+fn entry_line(
+    buf: &mut [u8],
+    at: usize,
+    table: &[u8],
+    i: usize,
+    symbols: &[u16],
+    graphs: &[u64],
+    productions: &[u16],
+    kids: &[u16],
+) -> usize
+    requires { ⌜ i < roomOf (slices (now symbols) (now graphs) (now productions) (now kids)) ⌝ }
+    ensures { λ r. ⌜ Placed
+        (entryText (kidsIn (now (table .entry))) i
+        (entryAt (slices (now (symbols .entry)) (now (graphs .entry)) (now (productions .entry)) (now (kids .entry))) i))
+        128 at (now (buf .entry)) (now (buf .exit)) r ⌝ }
+{
+    let p = productions[i];
+    let slots = slots_at(kids, 7 * i);
+    lines::put_entry(
+        buf,
+        at,
+        i as u16,
+        symbols[i],
+        p,
+        slots,
+        kids_in(table, p),
+        graphs[i],
+    )
+}
+
+fn entry_lines(
+    buf: &mut [u8],
+    at: usize,
+    table: &[u8],
+    count: usize,
+    symbols: &[u16],
+    graphs: &[u64],
+    productions: &[u16],
+    kids: &[u16],
+) -> usize
+    requires { ⌜ (count ≤ roomOf (slices (now symbols) (now graphs) (now productions) (now kids)))
+        × (at + 128 * count ≤ length (now buf)) ⌝ }
+    ensures { λ r. ⌜ Placed
+        (entryLines (kidsIn (now (table .entry))) 0
+        (entriesTo (slices (now (symbols .entry)) (now (graphs .entry)) (now (productions .entry)) (now (kids .entry))) count))
+        (128 * count) at (now (buf .entry)) (now (buf .exit)) r ⌝ }
+{
+    let mut end = at;
+    for i in 0..count {
+        end = entry_line(buf, end, table, i, symbols, graphs, productions, kids);
+    }
+    end
+}
+
+fn root_line(buf: &mut [u8], at: usize, table: &[u8], p: u16, root: [u16; 7]) -> usize
+    ensures { λ r. ⌜ Placed (rootLine p (take (kidsIn (now (table .entry)) p) root)) 128 at (now (buf .entry)) (now (buf .exit)) r ⌝ }
+{
+    lines::put_root(buf, at, p, root, kids_in(table, p))
+}
+
+fn smaller(a: usize, b: usize) -> usize
+    ensures { λ r. ⌜ r ≡ min a b ⌝ }
+{
+    if a <= b { a } else { b }
+}
+
+// Whether the slices have room for the entries, and the buffer 128 bytes for the line of each and for two more.
+fn is_enough(
+    entries: usize,
+    bytes: usize,
+    symbols: usize,
+    graphs: usize,
+    productions: usize,
+    kids: usize,
+) -> bool
+    requires { ⌜ entries < 65536 ⌝ }
+    ensures { λ r. ⌜ r ≡ both (leb entries (min 4096 (min symbols (min graphs (min productions (kids / 7)))))) (leb (128 * (entries + 2)) bytes) ⌝ }
+{
+    let room = smaller(
+        4096,
+        smaller(symbols, smaller(graphs, smaller(productions, kids / 7))),
+    );
+    if room < entries {
+        return false;
+    }
+    128 * (entries + 2) <= bytes
+}
+
+// What follows the first line.
+fn rest_lines(
+    buf: &mut [u8],
+    at: usize,
+    table: &[u8],
+    report: Report,
+    symbols: &[u16],
+    graphs: &[u64],
+    productions: &[u16],
+    kids: &[u16],
+) -> usize
+    requires { ⌜ (report .entries ≤ roomOf (slices (now symbols) (now graphs) (now productions) (now kids)))
+        × (at + 128 * (report .entries + 1) ≤ length (now buf)) ⌝ }
+    ensures { λ r. ⌜ Placed
+        (rest (report .answer)
+        (entryLines (kidsIn (now (table .entry))) 0
+        (entriesTo (slices (now (symbols .entry)) (now (graphs .entry)) (now (productions .entry)) (now (kids .entry))) (report .entries)))
+        (λ p. rootLine p (take (kidsIn (now (table .entry)) p) (report .root))))
+        (128 * (report .entries + 1)) at (now (buf .entry)) (now (buf .exit)) r ⌝ }
+{
+    let answer = report.answer;
+    if let Answer::Refused(_) = answer {
+        return at;
+    }
+    let count = wide(report.entries);
+    let end = entry_lines(buf, at, table, count, symbols, graphs, productions, kids);
+    let Answer::Circular(p) = answer else {
+        return end;
+    };
+    let root = report.root;
+    root_line(buf, end, table, p, root)
+}
+
+// The text of a report. Where the slices hold fewer entries than it says, or the buffer less than 128 bytes for the line of each and
+// for two more, nothing is written and the answer is 0.
+pub fn report_text(
+    buf: &mut [u8],
+    table: &[u8],
+    report: Report,
+    symbols: &[u16],
+    graphs: &[u64],
+    productions: &[u16],
+    kids: &[u16],
+) -> usize
+    ensures { λ r. ⌜ Printed
+        (printed (kidsIn (now (table .entry)))
+        (reported report (slices (now (symbols .entry)) (now (graphs .entry)) (now (productions .entry)) (now (kids .entry)))))
+        (enough report (slices (now (symbols .entry)) (now (graphs .entry)) (now (productions .entry)) (now (kids .entry))) (now (buf .entry)))
+        (now (buf .entry)) (now (buf .exit)) r ⌝ }
+{
+    let entries = wide(report.entries);
+    if !is_enough(
+        entries,
+        buf.len(),
+        symbols.len(),
+        graphs.len(),
+        productions.len(),
+        kids.len(),
+    ) {
+        return 0;
+    }
+    let end = first_line(buf, report);
+    rest_lines(buf, end, table, report, symbols, graphs, productions, kids)
+}
+
+// The text of the test of a table with at most `limit` closures. The stored entries are left at the front of the slices. Where the
+// buffer has less than 128 bytes for the line of each of them and for two more, it is as before and the answer is 0.
+pub fn test_text(
+    buf: &mut [u8],
+    table: &[u8],
+    limit: u32,
+    symbols: &mut [u16],
+    graphs: &mut [u64],
+    productions: &mut [u16],
+    kids: &mut [u16],
+) -> usize
+    ensures { λ r. ⌜ TestPrinted (now (table .entry)) limit
+        (slices (now (symbols .entry)) (now (graphs .entry)) (now (productions .entry)) (now (kids .entry)))
+        (slices (now (symbols .exit)) (now (graphs .exit)) (now (productions .exit)) (now (kids .exit)))
+        (now (buf .entry)) (now (buf .exit)) r ⌝ }
+{
+    let report = passes::test(table, limit, symbols, graphs, productions, kids);
+    report_text(buf, table, report, symbols, graphs, productions, kids)
+}
