@@ -8,7 +8,7 @@ use borrow.Author.Tests.{ltb-true, ltb-false, le-leb}
 use lib.Dec.{eqb, ltb, leb}
 use lib.ListN.{length, getD, take, drop, length-append, length-replicate, length-map, length-take, List·getD-append}
 use lib.Seq.{ext-getD, take-at, drop-append-add}
-use Rattle.numbers.specs.Lists.{both}
+use Rattle.numbers.specs.Lists.{both, written}
 use Rattle.grammar.specs.Grammar.{Grammar, production}
 use Rattle.grammar.specs.Table.{P, grammarOf}
 use Rattle.grammar.specs.Refusal.{refusal}
@@ -208,3 +208,12 @@ test-printed bs limit σ report τ {old} same t p =
       stored = record { report = refl; symbols = t .symbols; graphs = t .graphs; productions = t .productions; kids = t .kids };
       text = rw (reported-is o σ report τ good t, enough-is o σ report τ good t old same) at p;
     }
+
+-- where the buffer has 128 bytes for each entry of the room and for two more lines, the text is always there
+pub always-printed : (bs : List ℕ) (limit : ℕ) (σ τ : Slices) (old new : List ℕ) (r : ℕ) → 128 * (roomOf σ + 2) ≤ length old
+    → TestPrinted bs limit σ τ old new r
+    → (new ≡ written (printed (kidsIn bs) (test 8 bs limit (roomOf σ))) old) × (r ≡ length (printed (kidsIn bs) (test 8 bs limit (roomOf σ))))
+always-printed bs limit σ τ old new r h p =
+    let few = test-good bs limit (roomOf σ) .1 .0 in
+    let yes = le-leb (128 * (length (test 8 bs limit (roomOf σ) .entries) + 2)) (length old) (omega arith) in
+    (rw yes at (p .text .buffer), rw yes at (p .text .count))

@@ -1,0 +1,2 @@
+-- What circ prints, and what it has read.
+pub mod Whole
