@@ -3,7 +3,7 @@ use mathlib.Core.Path.{_≡_, refl, ap, sym, _∙_}
 use mathlib.Core.List.{List, [], _∷_}
 use Prim.Native.Nat.{ℕ, _≤_, _<_}
 use native.Mathlib.Omega.{arith}
-use lib.ListN.{length, take}
+use lib.ListN.{length, take, set}
 use Rattle.grammar.specs.Table.{grammarOf}
 use Rattle.grammar.specs.Rules.{Breaks}
 use Rattle.grammar.specs.Refusal.{refusal}
@@ -89,10 +89,80 @@ circle-B = circular-shown tableB 3 2 0 circular-B .circle
 still-B : StandsStillLeft tableB (shownTree tableB (back tableB 3 2) 0)
 still-B = stands-still tableB 3 2 0 circular-B
 
--- ---- demand 2 at R, which has trees without end
+-- B makes 3 closures and stores 2 entries
+closures-B : back tableB 3 2 .report .closures ≡ 3
+unfolding opened tableB
+closures-B = refl
+
+steps-B : answer tableB 2 2 ≡ OutOfSteps
+steps-B = steps-exactly tableB 2 3 2 (omega arith) .exactly .1 (omega (arith, closures-B))
+
+entries-B : length (back tableB 3 2 .entries) ≡ 2
+unfolding opened tableB
+entries-B = refl
+
+closures-room-B : back tableB 3 1 .report .closures ≡ 2
+unfolding opened tableB
+closures-room-B = refl
+
+room-B : answer tableB 3 1 ≡ OutOfRoom
+room-B =
+    room-exactly tableB 3 3 1 2 (omega arith) (omega (arith, closures-room-B)) (omega arith) .exactly .1 (omega (arith, entries-B))
+
+-- an edge of B given twice is refused by 7
+twice-B : answer (set (set tableB 103 0) 105 2) 3 2 ≡ Refused 7
+unfolding opened tableB
+twice-B = refl
+
+order-B : Breaks 8 (set (set tableB 103 0) 105 2) 7
+order-B = refused-exactly (set (set tableB 103 0) 105 2) 3 2 7 .exactly .0 twice-B
+
+-- ---- the demands at R, which has trees without end
 noncircular-R : answer tableR 5 2 ≡ Noncircular
 unfolding opened tableR
 noncircular-R = refl
 
 none-R : NoncircularNone tableR
 none-R = noncircular-none tableR 5 2 noncircular-R
+
+closures-R : back tableR 5 2 .report .closures ≡ 5
+unfolding opened tableR
+closures-R = refl
+
+steps-R : answer tableR 4 2 ≡ OutOfSteps
+steps-R = steps-exactly tableR 4 5 2 (omega arith) .exactly .1 (omega (arith, closures-R))
+
+entries-R : length (back tableR 5 2 .entries) ≡ 2
+unfolding opened tableR
+entries-R = refl
+
+closures-room-R : back tableR 5 1 .report .closures ≡ 2
+unfolding opened tableR
+closures-room-R = refl
+
+room-R : answer tableR 5 1 ≡ OutOfRoom
+room-R =
+    room-exactly tableR 5 5 1 2 (omega arith) (omega (arith, closures-room-R)) (omega arith) .exactly .1 (omega (arith, entries-R))
+
+taken-R : refusal 8 tableR ≡ 0
+unfolding opened tableR
+taken-R = refl
+
+more-than-one : MorePairs tableR 1
+more-than-one =
+    room-counts tableR 5 1 taken-R none-R (λ e. let z : _≡_ {A = ℕ} 0 1 = cc room-R in omega arith) .exactly .0 room-R
+
+tree-R : TreeOf tableR (node 1 (cons (node 0 nil) nil))
+unfolding opened tableR
+tree-R = (omega arith, (refl, (omega arith, tt), tt))
+
+goes-on-R : NeverStill tableR (node 1 (cons (node 0 nil) nil))
+goes-on-R = never-still tableR 5 2 noncircular-R (node 1 (cons (node 0 nil) nil)) tree-R
+
+-- one byte less is refused by 3
+short-R : answer (take 67 tableR) 5 2 ≡ Refused 3
+unfolding opened tableR
+short-R = refl
+
+offsets-R : Breaks 8 (take 67 tableR) 3
+offsets-R = refused-exactly (take 67 tableR) 5 2 3 .exactly .0 short-R
