@@ -2,3 +2,4 @@ pub mod Placing
 pub mod Resting
 pub mod Stored
 pub mod Longer
+pub mod OneReading
