@@ -1,0 +1,183 @@
+// Runs a corpus of tables, each with limits and rooms of its own, and prints of each run what `circ` would.
+//
+// A case of standard input is the length of a table (4 bytes), the table, the number of runs (1 byte), and for each run its limit
+// (4 bytes), its room (2 bytes) and whether entry lines are printed (1 byte).
+ghost use mathlib.Core.Path.{_≡_};
+ghost use Prim.Native.Nat.{_*_, _≤_};
+ghost use lib.ListN.{length};
+use libc::STDIN_FILENO;
+use libc::STDOUT_FILENO;
+use rules::Answer;
+use rules::Report;
+
+// Whether the input had enough for the whole buffer.
+fn fill(buf: &mut [u8]) -> bool {
+    io::read_full(STDIN_FILENO, buf) == buf.len()
+}
+
+fn wide(x: u16) -> usize {
+    x as usize
+}
+
+fn smaller(a: usize, b: usize) -> usize
+    ensures { λ r. ⌜ r ≤ b ⌝ }
+{
+    if a < b { a } else { b }
+}
+
+fn table_buffer() -> [u8; 65535]
+    ensures { λ r. ⌜ 65535 ≡ length r ⌝ }
+{
+    [0; 65535]
+}
+
+// 128 bytes for the line of each of 4,096 entries, and for two more.
+fn text_buffer() -> [u8; 524544]
+    ensures { λ r. ⌜ 524544 ≡ length r ⌝ }
+{
+    [0; 524544]
+}
+
+fn numbers() -> [u16; 4096]
+    ensures { λ r. ⌜ 4096 ≡ length r ⌝ }
+{
+    [0; 4096]
+}
+
+fn graphs() -> [u64; 4096]
+    ensures { λ r. ⌜ 4096 ≡ length r ⌝ }
+{
+    [0; 4096]
+}
+
+fn kids() -> [u16; 28672]
+    ensures { λ r. ⌜ 28672 ≡ length r ⌝ }
+{
+    [0; 28672]
+}
+
+// The count is that of a text in the buffer, so the test never fails.
+fn print_first(text: &[u8], count: usize) {
+    if count <= text.len() {
+        io::write_all(STDOUT_FILENO, &text[..count]);
+    }
+}
+
+fn root_line(text: &mut [u8], at: usize, table: &[u8], report: Report) -> usize {
+    let answer = report.answer;
+    let Answer::Circular(p) = answer else {
+        return at;
+    };
+    let production = grammar::production_of(table, wide(p));
+    let root = report.root;
+    lines::put_root(text, at, p, root, wide(production.n))
+}
+
+// The first line, and the root's.
+fn print_short(table: &[u8], report: Report) {
+    let mut text = [0u8; 256];
+    let at = lines::put_first(&mut text, 0, report);
+    let end = root_line(&mut text, at, table, report);
+    print_first(&text, end);
+}
+
+fn print_whole(
+    table: &[u8],
+    report: Report,
+    symbols: &[u16],
+    graphs: &[u64],
+    productions: &[u16],
+    kids: &[u16],
+) {
+    let mut text = text_buffer();
+    let count = print::report_text(&mut text, table, report, symbols, graphs, productions, kids);
+    print_first(&text, count);
+}
+
+// The test with so much room.
+fn tested(
+    table: &[u8],
+    limit: u32,
+    room: usize,
+    symbols: &mut [u16],
+    graphs: &mut [u64],
+    productions: &mut [u16],
+    kids: &mut [u16],
+) -> Report
+    requires { ⌜ (room ≤ length (now symbols)) × (room ≤ length (now graphs)) × (room ≤ length (now productions))
+        × (7 * room ≤ length (now kids)) ⌝ }
+{
+    passes::test(
+        table,
+        limit,
+        &mut symbols[..room],
+        &mut graphs[..room],
+        &mut productions[..room],
+        &mut kids[..7 * room],
+    )
+}
+
+fn one_run(table: &[u8]) -> bool {
+    let mut asked = [0u8; 7];
+    if !fill(&mut asked) {
+        return false;
+    }
+    let limit = numbers::four_at(&asked, 0);
+    let room = smaller(wide(numbers::two_at(&asked, 4)), 4096);
+    let mut symbols = numbers();
+    let mut graphs = graphs();
+    let mut productions = numbers();
+    let mut kids = kids();
+    let report = tested(
+        table,
+        limit,
+        room,
+        &mut symbols,
+        &mut graphs,
+        &mut productions,
+        &mut kids,
+    );
+    if numbers::byte_at(&asked, 6) == 1 {
+        print_whole(table, report, &symbols, &graphs, &productions, &kids);
+    } else {
+        print_short(table, report);
+    }
+    true
+}
+
+fn runs(table: &[u8]) -> bool {
+    let mut count = [0u8; 1];
+    if !fill(&mut count) {
+        return false;
+    }
+    for _ in 0..numbers::byte_at(&count, 0) {
+        if !one_run(table) {
+            return false;
+        }
+    }
+    true
+}
+
+fn one_case() -> bool {
+    let mut length = [0u8; 4];
+    if !fill(&mut length) {
+        return false;
+    }
+    let n = numbers::four_at(&length, 0) as usize;
+    let mut table = table_buffer();
+    if table.len() < n {
+        return false;
+    }
+    if !fill(&mut table[..n]) {
+        return false;
+    }
+    runs(&table[..n])
+}
+
+fn main() {
+    for _ in 0..100000usize {
+        if !one_case() {
+            return;
+        }
+    }
+}
