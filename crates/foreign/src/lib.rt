@@ -109,8 +109,7 @@ pub extern "C" fn circ_own_rows(run: &[u8], rows: &mut [u64; 64])
 pub extern "C" fn circ_place(rows: &mut [u64; 64], graph: u64, occurrence: usize)
     ensures { λ _. ⌜ now (rows .exit) ≡ placed 8 occurrence graph (now (rows .entry)) ⌝ }
 {
-    let placed = graph::place(*rows, graph, occurrence);
-    *rows = placed;
+    graph::place(rows, graph, occurrence);
 }
 
 // The closure of the nodes of the first occurrences.
@@ -118,8 +117,7 @@ pub extern "C" fn circ_place(rows: &mut [u64; 64], graph: u64, occurrence: usize
 pub extern "C" fn circ_close(rows: &mut [u64; 64], occurrences: usize)
     ensures { λ _. ⌜ now (rows .exit) ≡ closedFirst (8 * occurrences) (now (rows .entry)) ⌝ }
 {
-    let closed = graph::close(*rows, occurrences);
-    *rows = closed;
+    graph::close(rows, occurrences);
 }
 
 // Whether a node of the first occurrences leads to itself.
@@ -127,7 +125,7 @@ pub extern "C" fn circ_close(rows: &mut [u64; 64], occurrences: usize)
 pub extern "C" fn circ_has_circle(rows: &[u64; 64], occurrences: usize) -> bool
     ensures { λ r. ⌜ r ≡ hasCircle (take (8 * occurrences) (now (rows .entry))) ⌝ }
 {
-    graph::has_circle(*rows, occurrences)
+    graph::has_circle(rows, occurrences)
 }
 
 // The pairs among the nodes of the left symbol.
@@ -135,5 +133,5 @@ pub extern "C" fn circ_has_circle(rows: &[u64; 64], occurrences: usize) -> bool
 pub extern "C" fn circ_root_graph(rows: &[u64; 64]) -> u64
     ensures { λ r. ⌜ r ≡ rootGraph 8 (now (rows .entry)) ⌝ }
 {
-    graph::root_graph(*rows)
+    graph::root_graph(rows)
 }

@@ -2,21 +2,22 @@
 use mathlib.Core.Path.{_≡_, refl, sym, ap, ap₂, _∙_}
 use mathlib.Core.Bool.{Bool, true, false, cond}
 use mathlib.Core.List.{List, [], _∷_, _++_, map}
+use mathlib.Core.Logic.{⊎-elim}
 use Prim.Native.Nat.{ℕ, zero, suc, _+_, _*_, _/_, _%_, _^_, _-_, _≤_, _<_, min, max}
-use native.Mathlib.Nat.{max-zero}
-use native.Mathlib.Decide.{decLe}
+use native.Mathlib.Nat.{max-zero, eq-or-lt-of-le}
+use native.Mathlib.Decide.{decLe, decLt}
 use native.Mathlib.Numerals.{add-one}
 use native.Mathlib.Omega.{arith}
-use lib.Bits.{bitOr}
+use lib.Bits.{bitOr, or-zero-r}
 use lib.Dec.{ltb, eqb}
-use lib.ListN.{length, getD, set, take, drop, length-append, length-map, length-set, length-take, length-drop, drop-of-length-le}
+use lib.ListN.{length, getD, set, take, drop, length-append, length-map, length-set, length-take, length-drop, drop-of-length-le, List·getD-eq-default}
 use lib.Seq.{set-out, take-all, take-at, drop-at, getD-take}
 use borrow.Author.Tests.{lt-ltb, le-ltb, eq-eqb}
 use Rattle.numbers.specs.Number.{bit}
 use Rattle.numbers.specs.Lists.{upFrom}
-use Rattle.numbers.proofs.Bits.{bit-lt, or-low}
+use Rattle.numbers.proofs.Bits.{bit-lt, bit-zero, bit-or, or-low}
 use Rattle.grammar.specs.declared.Edge.{Edge}
-use Rattle.graph.specs.Rows.{node, bits, joinAt, link, own, pairsFrom, placedTo, through, step, stepsTo, closure, closedFirst, orElse, circleTo, hasCircle, rootTo}
+use Rattle.graph.specs.Rows.{node, bits, joinAt, link, own, pairsFrom, placedTo, join, through, step, stepsTo, closure, mapFirst, closedFirst, targetsTo, orElse, circleTo, hasCircle, rootTo}
 
 -- ---- a number that is clipped to the length of a list
 
@@ -104,28 +105,30 @@ pub root-more : (w a : ℕ) (rows : List ℕ) {g x : ℕ}
 unfolding rootTo
 root-more w a rows p q = rw add-one (ap₂ bitOr p q)
 
--- ---- a table that is filled from the front with f of another one's rows
+-- ---- rows that are changed where they stand, from the front
 
-module _ {A B : Type 0} (f : A → B) where
-  abbrev pub filled : List A → List B → ℕ → List B
-  filled xs d i = map f (take i xs) ++ drop i d
+module _ (f : ℕ → ℕ) where
+  row-ahead : (rows : List ℕ) (i : ℕ) → i < length rows → getD (mapFirst i f rows) i 0 ≡ getD rows i 0
+  row-ahead [] i l = absurd (omega arith)
+  row-ahead (x ∷ rows) zero l = refl
+  row-ahead (x ∷ rows) (suc i) l = row-ahead rows i (omega arith)
 
-  fill : (z : A) (xs : List A) (d : List B) (i : ℕ) → i < length xs → i < length d
-      → set (filled xs d i) i (f (getD xs i z)) ≡ filled xs d (suc i)
-  fill z [] d i l m = absurd (omega arith)
-  fill z (x ∷ xs) [] i l m = absurd (omega arith)
-  fill z (x ∷ xs) (y ∷ d) zero l m = refl
-  fill z (x ∷ xs) (y ∷ d) (suc i) l m = ap (λ (r : List B). f x ∷ r) (fill z xs d i (omega arith) (omega arith))
+  one-more : (rows : List ℕ) (i : ℕ) → i < length rows → set (mapFirst i f rows) i (f (getD rows i 0)) ≡ mapFirst (suc i) f rows
+  one-more [] i l = absurd (omega arith)
+  one-more (x ∷ rows) zero l = refl
+  one-more (x ∷ rows) (suc i) l = ap (λ (r : List ℕ). f x ∷ r) (one-more rows i (omega arith))
 
-  pub filled-more : (z : A) (xs : List A) (d : List B) (i : ℕ) {t : List B} {v : B}
-      → t ≡ filled xs d i → v ≡ f (getD xs i z) → i < length xs → i < length d → set t i v ≡ filled xs d (i + 1)
-  filled-more z xs d i p q l m = rw add-one (ap₂ (λ (t : List B) (v : B). set t i v) p q ∙ fill z xs d i l m)
+  pub map-more : (rows : List ℕ) (i : ℕ) {t : List ℕ} {v : ℕ}
+      → t ≡ mapFirst i f rows → v ≡ f (getD t i 0) → i < length rows → set t i v ≡ mapFirst (i + 1) f rows
+  map-more rows i p q l =
+      rw add-one
+      (ap₂ (λ (t : List ℕ) (v : ℕ). set t i v) p (q ∙ ap f (ap (λ (t : List ℕ). getD t i 0) p ∙ row-ahead rows i l))
+      ∙ one-more rows i l)
+
+  pub length-map-first : (m : ℕ) (rows : List ℕ) → length (mapFirst m f rows) ≡ length rows
+  length-map-first m rows = simp (length-append, length-map, length-take, length-drop) (omega arith)
 
 -- ---- the steps
-
-pub step-part : (k m : ℕ) (rows : List ℕ) → k < m → map (through k (getD rows k 0)) (take m rows) ≡ step k (take m rows)
-unfolding step
-step-part k m rows l = rw (getD-take m rows k 0 l)
 
 pub length-step : (k : ℕ) (rows : List ℕ) → length (step k rows) ≡ length rows
 unfolding step
@@ -140,31 +143,106 @@ pub length-closure : (rows : List ℕ) → length (closure rows) ≡ length rows
 unfolding closure
 length-closure rows = length-steps (length rows) rows
 
--- the written table is as long as before
-pub length-stepped : (n k m : ℕ) (t u : List ℕ) {u′ : List ℕ} → u′ ≡ step k (take m t) ++ drop m u
-    → m ≤ n → length t ≡ n → length u ≡ n → length u′ ≡ n
-length-stepped n k m t u p l q r =
-    ap length p ∙ simp (length-append, length-step, length-take, length-drop) (omega arith)
+-- no edge leads to node j
+abbrev pub NoneTo : ℕ → List ℕ → Type 0
+NoneTo j rows = (i : ℕ) → bits rows i j ≡ 0
 
--- the step through node k, where the first m rows of t are those after the steps before
+join-none : (b j via row : ℕ) → bit j via ≡ 0 → bit j row ≡ 0 → bit j (join b via row) ≡ 0
+join-none zero j via row h r = r
+join-none (suc b) j via row h r = bit-or j row via ∙ omega (arith, h, r)
+
+through-none : (k via row : ℕ) → bit k row ≡ 0 → through k via row ≡ row
+unfolding through
+through-none k via row h = rw h
+
+through-nothing : (k row : ℕ) → through k 0 row ≡ row
+unfolding through
+through-nothing k row = go (bit k row)
+  where
+    go : (b : ℕ) → join b 0 row ≡ row
+    go zero = refl
+    go (suc b) = or-zero-r row
+
+map-same : (f : ℕ → ℕ) (rows : List ℕ) → ((i : ℕ) → f (getD rows i 0) ≡ getD rows i 0) → map f rows ≡ rows
+map-same f [] h = refl
+map-same f (x ∷ rows) h = ap₂ (λ (y : ℕ) (r : List ℕ). y ∷ r) (h 0) (map-same f rows (λ i. h (suc i)))
+
+-- the step through a node that no edge leaves
+step-nothing : (k : ℕ) (rows : List ℕ) → getD rows k 0 ≡ 0 → step k rows ≡ rows
+unfolding step
+step-nothing k rows h = rw h (map-same (through k 0) rows (λ i. through-nothing k (getD rows i 0)))
+
+-- the step through a node to which no edge leads
+step-none : (k : ℕ) (rows : List ℕ) → NoneTo k rows → step k rows ≡ rows
+unfolding step
+step-none k rows h = map-same (through k (getD rows k 0)) rows (λ i. through-none k (getD rows k 0) (getD rows i 0) (h i))
+
+row-of-map : (f : ℕ → ℕ) → f 0 ≡ 0 → (rows : List ℕ) (i : ℕ) → getD (map f rows) i 0 ≡ f (getD rows i 0)
+row-of-map f h [] i = sym h
+row-of-map f h (x ∷ rows) zero = refl
+row-of-map f h (x ∷ rows) (suc i) = row-of-map f h rows i
+
+none-stepped : (j k : ℕ) (rows : List ℕ) → NoneTo j rows → NoneTo j (step k rows)
+unfolding step through
+none-stepped j k rows h i =
+    ap (bit j) (row-of-map (through k (getD rows k 0)) (through-none k (getD rows k 0) 0 (bit-zero k)) rows i)
+    ∙ join-none (bit k (getD rows i 0)) j (getD rows k 0) (getD rows i 0) (h k) (h i)
+
+none-steps : (j k : ℕ) (rows : List ℕ) → NoneTo j rows → NoneTo j (stepsTo k rows)
+unfolding stepsTo
+none-steps j zero rows h = h
+none-steps j (suc k) rows h = none-stepped j k (stepsTo k rows) (none-steps j k rows h)
+
+pub targets-more : (i all : ℕ) (rows : List ℕ) → all ≡ targetsTo i rows → bitOr all (getD rows i 0) ≡ targetsTo (i + 1) rows
+unfolding targetsTo
+targets-more i all rows e = rw add-one (ap (λ (x : ℕ). bitOr x (getD rows i 0)) e)
+
+targets-below : (j m : ℕ) (rows : List ℕ) → bit j (targetsTo m rows) ≡ 0 → (i : ℕ) → i < m → bits rows i j ≡ 0
+unfolding targetsTo
+targets-below j zero rows h i l = absurd (omega arith)
+targets-below j (suc m) rows h i l =
+    let e = sym (bit-or j (targetsTo m rows) (getD rows m 0)) ∙ h in
+    ⊎-elim
+    (λ (q : suc i ≡ suc m).
+    let z : i ≡ m = omega (arith, q) in
+    rw z (omega (arith, e)))
+    (λ (q : suc i < suc m). targets-below j m rows (omega (arith, e)) i (omega (arith, q)))
+    (eq-or-lt-of-le l)
+
+pub targets-none : (j m : ℕ) (rows : List ℕ) → bit j (targetsTo m rows) ≡ 0 → NoneTo j (take m rows)
+targets-none j m rows h i = go (decLt i m)
+  where
+    go : Dec (i < m) → bits (take m rows) i j ≡ 0
+    go (yes l) = ap (bit j) (getD-take m rows i 0 l) ∙ targets-below j m rows h i l
+    go (no f) = ap (bit j) (List·getD-eq-default (take m rows) 0 {n = i} (omega (arith, length-take m rows))) ∙ bit-zero j
+
+-- ---- the step through node k, where the first m rows of t are those after the steps before
+
 module _ (k m : ℕ) (xs d : List ℕ) (n : length xs ≡ m) {t : List ℕ} (p : t ≡ stepsTo k xs ++ d) where
-  steps-more : step k (take m t) ≡ stepsTo (suc k) xs
+  front : take m t ≡ stepsTo k xs
+  front = ap (take m) p ∙ take-at (stepsTo k xs) d m (length-steps k xs ∙ n)
+
+  rest : drop m t ≡ d
+  rest = ap (drop m) p ∙ drop-at (stepsTo k xs) d m (length-steps k xs ∙ n)
+
+  row : k < m → getD t k 0 ≡ getD (stepsTo k xs) k 0
+  row l = sym (getD-take m t k 0 l) ∙ ap (λ (r : List ℕ). getD r k 0) front
+
+  -- it is made
+  pub step-made : k < m → {u : List ℕ} → u ≡ mapFirst m (through k (getD t k 0)) t → u ≡ stepsTo (k + 1) xs ++ d
+  unfolding stepsTo step
+  step-made l e = e ∙ rw (add-one, row l, front, rest)
+
+  -- it changes nothing
+  same : step k (stepsTo k xs) ≡ stepsTo k xs → t ≡ stepsTo (k + 1) xs ++ d
   unfolding stepsTo
-  steps-more = ap (step k) (ap (take m) p ∙ take-at (stepsTo k xs) d m (length-steps k xs ∙ n))
+  same e = p ∙ rw (add-one, e)
 
-  steps-rest : drop m t ≡ d
-  steps-rest = ap (drop m) p ∙ drop-at (stepsTo k xs) d m (length-steps k xs ∙ n)
+  pub step-from-none : k < m → getD t k 0 ≡ 0 → t ≡ stepsTo (k + 1) xs ++ d
+  step-from-none l h = same (step-nothing k (stepsTo k xs) (sym (row l) ∙ h))
 
--- from one table into the other and back
-pub two-steps : (k m : ℕ) (xs d u : List ℕ) {t t′ u′ : List ℕ} → length xs ≡ m → t ≡ stepsTo k xs ++ d
-    → u′ ≡ step k (take m t) ++ drop m u → t′ ≡ step (k + 1) (take m u′) ++ drop m t → t′ ≡ stepsTo (k + 2) xs ++ d
-two-steps k m xs d u {t} {t′} {u′} n p q r =
-    let q′ : u′ ≡ stepsTo (k + 1) xs ++ drop m u =
-    rw add-one (q ∙ ap (λ (a : List ℕ). a ++ drop m u) (steps-more k m xs d n p)) in
-    let e : suc (k + 1) ≡ k + 2 = omega arith in
-    r
-    ∙ ap₂ (λ (a b : List ℕ). a ++ b)
-    (steps-more (k + 1) m xs (drop m u) n q′ ∙ ap (λ (i : ℕ). stepsTo i xs) e) (steps-rest k m xs d n p)
+  pub step-to-none : NoneTo k xs → t ≡ stepsTo (k + 1) xs ++ d
+  step-to-none h = same (step-none k (stepsTo k xs) (none-steps k k xs h))
 
 -- after all steps
 pub closed-clipped : (m n : ℕ) (rows : List ℕ) → n ≡ min m (length rows)

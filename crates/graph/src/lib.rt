@@ -1,10 +1,9 @@
 // Graphs as rows of bits: 64 rows of 64 bits, a row for each attribute of the eight occurrences that a production has at most.
 ghost use mathlib.Core.Path.{_≡_};
-ghost use mathlib.Core.List.{_++_};
 ghost use Prim.Native.Nat.{_*_, _+_, _<_, _≤_, min};
 ghost use lib.ListN.{length, take, drop, replicate};
 ghost use Rattle.grammar.specs.Table.{nodeIn, edgesIn};
-ghost use Rattle.graph.specs.Rows.{node, link, own, placed, through, step, closedFirst, hasCircle, rootGraph};
+ghost use Rattle.graph.specs.Rows.{node, link, own, placed, through, mapFirst, targetsTo, closedFirst, hasCircle, rootGraph};
 
 // The number of the node whose occurrence and attribute stand at `at`.
 fn node_at(run: &[u8], at: usize) -> usize
@@ -42,19 +41,24 @@ pub fn own_rows(run: &[u8]) -> [u64; 64]
 }
 
 // A subtree's pairs, joined in at its occurrence.
-pub fn place(rows: [u64; 64], graph: u64, occurrence: usize) -> [u64; 64]
-    ensures { λ r. ⌜ r ≡ placed 8 occurrence graph rows ⌝ }
+fn place_in(rows: &mut [u64], graph: u64, occurrence: usize)
+    requires { ⌜ length (now rows) ≡ 64 ⌝ }
+    ensures { λ _. ⌜ now (rows .exit) ≡ placed 8 occurrence graph (now (rows .entry)) ⌝ }
 {
     if 8 <= occurrence {
-        return rows;
+        return;
     }
     let base = 8 * occurrence;
-    let mut t = rows;
     for a in 0..8 {
         let pairs = (graph >> (8 * a)) & 255;
-        t[base + a] = t[base + a] | (pairs << base);
+        rows[base + a] = rows[base + a] | (pairs << base);
     }
-    t
+}
+
+pub fn place(rows: &mut [u64; 64], graph: u64, occurrence: usize)
+    ensures { λ _. ⌜ now (rows .exit) ≡ placed 8 occurrence graph (now (rows .entry)) ⌝ }
+{
+    place_in(rows, graph, occurrence);
 }
 
 // A row after the step through node k, whose row is `via`.
@@ -65,14 +69,13 @@ fn joined(k: usize, via: u64, row: u64) -> u64
     if (row >> k) & 1 == 1 { row | via } else { row }
 }
 
-// The step through node k, of which one table is read and the other written, in the rows of the first m nodes.
-fn step_from(old: &[u64; 64], new: &mut [u64; 64], k: usize, m: usize)
-    requires { ⌜ (k < m) × (m ≤ 64) × (length (now old) ≡ 64) × (length (now new) ≡ 64) ⌝ }
-    ensures { λ _. ⌜ now (new .exit) ≡ step k (take m (now (old .entry))) ++ drop m (now (new .entry)) ⌝ }
+// The step through node k, whose row is `via`, in the rows of the first m nodes.
+fn step_through(rows: &mut [u64], k: usize, via: u64, m: usize)
+    requires { ⌜ (k < 64) × (m ≤ length (now rows)) ⌝ }
+    ensures { λ _. ⌜ now (rows .exit) ≡ mapFirst m (through k via) (now (rows .entry)) ⌝ }
 {
-    let via = old[k];
     for i in 0..m {
-        new[i] = joined(k, via, old[i]);
+        rows[i] = joined(k, via, rows[i]);
     }
 }
 
@@ -83,24 +86,46 @@ fn nodes(occurrences: usize) -> usize
     if occurrences < 8 { 8 * occurrences } else { 64 }
 }
 
-// The closure of the nodes of the first occurrences. Two steps a turn, from one table into the other and back: nothing is copied.
-pub fn close(rows: [u64; 64], occurrences: usize) -> [u64; 64]
-    ensures { λ r. ⌜ r ≡ closedFirst (8 * occurrences) rows ⌝ }
+// The nodes to which an edge of the first m rows leads, as the bits of one row.
+fn targets(rows: &[u64], m: usize) -> u64
+    requires { ⌜ m ≤ length (now rows) ⌝ }
+    ensures { λ r. ⌜ r ≡ targetsTo m (now (rows .entry)) ⌝ }
+{
+    let mut all: u64 = 0;
+    for i in 0..m {
+        all = all | rows[i];
+    }
+    all
+}
+
+// The closure of the nodes of the first occurrences. The step through a node that no edge leaves, or to which none leads, would change
+// nothing and is left out.
+fn close_in(rows: &mut [u64], occurrences: usize)
+    requires { ⌜ length (now rows) ≡ 64 ⌝ }
+    ensures { λ _. ⌜ now (rows .exit) ≡ closedFirst (8 * occurrences) (now (rows .entry)) ⌝ }
 {
     let m = nodes(occurrences);
-    let mut t = rows;
-    let mut u = rows;
-    for p in 0..(m / 2) {
-        let k = 2 * p;
-        step_from(&t, &mut u, k, m);
-        step_from(&u, &mut t, k + 1, m);
+    let all = targets(rows, m);
+    for k in 0..m {
+        let via = rows[k];
+        if via != 0 {
+            if (all >> k) & 1 == 1 {
+                step_through(rows, k, via, m);
+            }
+        }
     }
-    t
+}
+
+pub fn close(rows: &mut [u64; 64], occurrences: usize)
+    ensures { λ _. ⌜ now (rows .exit) ≡ closedFirst (8 * occurrences) (now (rows .entry)) ⌝ }
+{
+    close_in(rows, occurrences);
 }
 
 // Whether a node of the first occurrences has an edge to itself.
-pub fn has_circle(rows: [u64; 64], occurrences: usize) -> bool
-    ensures { λ r. ⌜ r ≡ hasCircle (take (8 * occurrences) rows) ⌝ }
+fn circle_in(rows: &[u64], occurrences: usize) -> bool
+    requires { ⌜ length (now rows) ≡ 64 ⌝ }
+    ensures { λ r. ⌜ r ≡ hasCircle (take (8 * occurrences) (now (rows .entry))) ⌝ }
 {
     let n = nodes(occurrences);
     let mut seen: u64 = 0;
@@ -110,9 +135,15 @@ pub fn has_circle(rows: [u64; 64], occurrences: usize) -> bool
     seen & 1 == 1
 }
 
+pub fn has_circle(rows: &[u64; 64], occurrences: usize) -> bool
+    ensures { λ r. ⌜ r ≡ hasCircle (take (8 * occurrences) (now (rows .entry))) ⌝ }
+{
+    circle_in(rows, occurrences)
+}
+
 // The pairs among the nodes of the left symbol.
-pub fn root_graph(rows: [u64; 64]) -> u64
-    ensures { λ r. ⌜ r ≡ rootGraph 8 rows ⌝ }
+pub fn root_graph(rows: &[u64; 64]) -> u64
+    ensures { λ r. ⌜ r ≡ rootGraph 8 (now (rows .entry)) ⌝ }
 {
     let mut graph: u64 = 0;
     for a in 0..8 {

@@ -14,37 +14,37 @@ use Rattle.passes.specs.declared.Run.{Run}
 use Rattle.passes.specs.declared.Task.{Task}
 use Rattle.rules.specs.Passes.{State, Ran, going, entry, seven, try, tries}
 use Rattle.passes.specs.Slices.{Slices}
-use Rattle.passes.specs.Follow.{entryAt, entriesTo, Follows, Ready, Picked, systemBy, combosFrom}
+use Rattle.passes.specs.Follow.{entryAt, entriesTo, Follows, Ready, Picked, turnBy, systemBy, combosFrom}
 use Rattle.passes.proofs.Entries.{length-snoc, length-entries, entry-at}
 use Rattle.passes.proofs.Combinations.{between, between-split, between-hit, between-other, between-none, later, combos-leaf, combos-level, combos-next}
 use Rattle.passes.proofs.Following.{follows-nothing, follows-still, follows-then, follows-same, tries-append, tries-one, tries-none}
 use Rattle.passes.proofs.Six.{length-seven}
 
 -- the rule of a task over some combinations
-abbrev pub over : Task → List (List ℕ) → ℕ → State → Ran
-over k cs limit = tries (systemBy k) limit (k .room) (k .number) cs
+abbrev pub over : Task → List ℕ → List (List ℕ) → ℕ → State → Ran
+over k rows cs limit = tries (systemBy (turnBy k rows)) limit (k .room) (k .number) cs
 
 -- one list of combinations after the other
-pub over-then : (k : Task) (σ τ υ : Slices) (r q p : Run) (a b c : List (List ℕ)) → a ++ b ≡ c
-    → Follows (k .room) (over k a) σ r τ q → Follows (k .room) (over k b) τ q υ p → Follows (k .room) (over k c) σ r υ p
-over-then k σ τ υ r q p a b c e f g =
-    follows-same (k .room) σ r _ (over k c) υ p (follows-then (k .room) σ r (over k a) (over k b) τ q f υ p g)
-    (λ limit s. tries-append (systemBy k) limit (k .room) (k .number) a b s
-    ∙ ap (λ (l : List (List ℕ)). over k l limit s) e)
+pub over-then : (k : Task) (rows : List ℕ) (σ τ υ : Slices) (r q p : Run) (a b c : List (List ℕ)) → a ++ b ≡ c
+    → Follows (k .room) (over k rows a) σ r τ q → Follows (k .room) (over k rows b) τ q υ p → Follows (k .room) (over k rows c) σ r υ p
+over-then k rows σ τ υ r q p a b c e f g =
+    follows-same (k .room) σ r _ (over k rows c) υ p (follows-then (k .room) σ r (over k rows a) (over k rows b) τ q f υ p g)
+    (λ limit s. tries-append (systemBy (turnBy k rows)) limit (k .room) (k .number) a b s
+    ∙ ap (λ (l : List (List ℕ)). over k rows l limit s) e)
 
-pub over-none : (k : Task) (σ : Slices) (r : Run) (cs : List (List ℕ)) → cs ≡ [] → r .stored ≤ k .room → Follows (k .room) (over k cs) σ r σ r
-over-none k σ r cs e h =
-    follows-same (k .room) σ r (λ limit. going) (over k cs) σ r (follows-nothing (k .room) σ r h)
-    (λ limit s. tries-none (systemBy k) limit (k .room) (k .number) s ∙ ap (λ (l : List (List ℕ)). over k l limit s) (sym e))
+pub over-none : (k : Task) (rows : List ℕ) (σ : Slices) (r : Run) (cs : List (List ℕ)) → cs ≡ [] → r .stored ≤ k .room → Follows (k .room) (over k rows cs) σ r σ r
+over-none k rows σ r cs e h =
+    follows-same (k .room) σ r (λ limit. going) (over k rows cs) σ r (follows-nothing (k .room) σ r h)
+    (λ limit s. tries-none (systemBy (turnBy k rows)) limit (k .room) (k .number) s ∙ ap (λ (l : List (List ℕ)). over k rows l limit s) (sym e))
 
 -- below the last right symbol
-pub level-leaf : (k : Task) (es : List Entry) (σ : Slices) (r : Run) (n : ℕ) (picked : List ℕ) (τ : Slices) (q : Run) → n ≡ k .count
-    → Follows (k .room) (λ limit. try (systemBy k) limit (k .room) (k .number) (take (k .count) picked)) σ r τ q
-    → Follows (k .room) (over k (combosFrom k es n picked)) σ r τ q
-level-leaf k es σ r n picked τ q e f =
-    follows-same (k .room) σ r _ (over k (combosFrom k es n picked)) τ q f
-    (λ limit s. tries-one (systemBy k) limit (k .room) (k .number) (take (k .count) picked) s
-    ∙ ap (λ (l : List (List ℕ)). over k l limit s) (sym (combos-leaf k es n picked e)))
+pub level-leaf : (k : Task) (rows : List ℕ) (es : List Entry) (σ : Slices) (r : Run) (n : ℕ) (picked : List ℕ) (τ : Slices) (q : Run) → n ≡ k .count
+    → Follows (k .room) (λ limit. try (systemBy (turnBy k rows)) limit (k .room) (k .number) (take (k .count) picked)) σ r τ q
+    → Follows (k .room) (over k rows (combosFrom k es n picked)) σ r τ q
+level-leaf k rows es σ r n picked τ q e f =
+    follows-same (k .room) σ r _ (over k rows (combosFrom k es n picked)) τ q f
+    (λ limit s. tries-one (systemBy (turnBy k rows)) limit (k .room) (k .number) (take (k .count) picked) s
+    ∙ ap (λ (l : List (List ℕ)). over k rows l limit s) (sym (combos-leaf k es n picked e)))
 
 -- where a level begins with the slices σ₀: the combinations by the entries with numbers from i on, of which there are m
 abbrev pub partOf : Task → Slices → ℕ → List ℕ → ℕ → ℕ → List (List ℕ)
@@ -52,20 +52,20 @@ partOf k σ₀ n picked i m =
     between (entriesTo σ₀ (k .first)) (getD (k .rights) n 0) (take n picked) (later k (entriesTo σ₀ (k .first)) n picked) i m
 
 -- the entries below e are passed
-abbrev pub Passed : Task → Slices → Run → ℕ → List ℕ → ℕ → Slices → Run → Type 0
-Passed k σ₀ r₀ n picked e σ r = Follows (k .room) (over k (partOf k σ₀ n picked 0 e)) σ₀ r₀ σ r
+abbrev pub Passed : Task → List ℕ → Slices → Run → ℕ → List ℕ → ℕ → Slices → Run → Type 0
+Passed k rows σ₀ r₀ n picked e σ r = Follows (k .room) (over k rows (partOf k σ₀ n picked 0 e)) σ₀ r₀ σ r
 
-module _ (k : Task) (σ₀ : Slices) (r₀ : Run) (ready : Ready k σ₀ r₀) (n : ℕ) (picked : List ℕ) where
+module _ (k : Task) (rows : List ℕ) (σ₀ : Slices) (r₀ : Run) (ready : Ready k σ₀ r₀) (n : ℕ) (picked : List ℕ) where
   abbrev begun : List Entry
   begun = entriesTo σ₀ (k .first)
 
   abbrev part : ℕ → ℕ → List (List ℕ)
   part = partOf k σ₀ n picked
 
-  pub level-start : Passed k σ₀ r₀ n picked 0 σ₀ r₀
-  level-start = over-none k σ₀ r₀ (part 0 0) (between-none begun _ _ _ 0) (ready .roomy .stored)
+  pub level-start : Passed k rows σ₀ r₀ n picked 0 σ₀ r₀
+  level-start = over-none k rows σ₀ r₀ (part 0 0) (between-none begun _ _ _ 0) (ready .roomy .stored)
 
-  module _ (σ : Slices) (r : Run) (e : ℕ) (f : Passed k σ₀ r₀ n picked e σ r) where
+  module _ (σ : Slices) (r : Run) (e : ℕ) (f : Passed k rows σ₀ r₀ n picked e σ r) where
     begun-same : entriesTo σ (k .first) ≡ begun
     begun-same = f .kept .stay (k .first) (ready .first)
 
@@ -75,40 +75,40 @@ module _ (k : Task) (σ₀ : Slices) (r₀ : Run) (ready : Ready k σ₀ r₀) (
     symbol-same l =
         ap (λ (x : Entry). x .symbol) (sym (entry-at σ (k .first) e l)) ∙ ap (λ (es : List Entry). entry es e .symbol) begun-same
 
-    more : (τ : Slices) (q : Run) → Follows (k .room) (over k (part e 1)) σ r τ q → Passed k σ₀ r₀ n picked (e + 1) τ q
-    more τ q g = over-then k σ₀ σ τ r₀ r q (part 0 e) (part e 1) (part 0 (e + 1)) (sym (between-split begun _ _ _ e 1)) f g
+    more : (τ : Slices) (q : Run) → Follows (k .room) (over k rows (part e 1)) σ r τ q → Passed k rows σ₀ r₀ n picked (e + 1) τ q
+    more τ q g = over-then k rows σ₀ σ τ r₀ r q (part 0 e) (part e 1) (part 0 (e + 1)) (sym (between-split begun _ _ _ e 1)) f g
 
     -- an entry of the right symbol: the levels below follow it
     pub level-hit : e < k .first → n < length picked → getD (σ .symbols) e 0 ≡ getD (k .rights) n 0
         → (next : List ℕ) (τ : Slices) (q : Run) → next ≡ set picked n e
-        → Follows (k .room) (over k (combosFrom k (entriesTo σ (k .first)) (n + 1) next)) σ r τ q
-        → Passed k σ₀ r₀ n picked (e + 1) τ q
+        → Follows (k .room) (over k rows (combosFrom k (entriesTo σ (k .first)) (n + 1) next)) σ r τ q
+        → Passed k rows σ₀ r₀ n picked (e + 1) τ q
     level-hit l m here next τ q h g =
         more τ q
-        (subst (λ (cs : List (List ℕ)). Follows (k .room) (over k cs) σ r τ q)
+        (subst (λ (cs : List (List ℕ)). Follows (k .room) (over k rows cs) σ r τ q)
         (ap₂ (λ (es : List Entry) (p : List ℕ). combosFrom k es (n + 1) p) begun-same h
         ∙ combos-next k begun n picked e m
         ∙ sym (between-hit begun _ _ _ e (sym (symbol-same l) ∙ here)))
         g)
 
-    pub level-other : e < k .first → (getD (σ .symbols) e 0 ≡ getD (k .rights) n 0 → ⊥) → Passed k σ₀ r₀ n picked (e + 1) σ r
+    pub level-other : e < k .first → (getD (σ .symbols) e 0 ≡ getD (k .rights) n 0 → ⊥) → Passed k rows σ₀ r₀ n picked (e + 1) σ r
     level-other l here =
-        more σ r (over-none k σ r (part e 1) (between-other begun _ _ _ e (λ h. here (symbol-same l ∙ h))) (f .kept .fits))
+        more σ r (over-none k rows σ r (part e 1) (between-other begun _ _ _ e (λ h. here (symbol-same l ∙ h))) (f .kept .fits))
 
     module _ (lower : n < k .count) (long : k .count ≤ length (k .rights)) where
       whole : part 0 (k .first) ≡ combosFrom k begun n picked
       whole = sym (combos-level k begun n picked lower long ∙ ap (part 0) (length-entries σ₀ (k .first)))
 
       -- every entry is passed
-      pub level-end : e ≡ k .first → Follows (k .room) (over k (combosFrom k begun n picked)) σ₀ r₀ σ r
+      pub level-end : e ≡ k .first → Follows (k .room) (over k rows (combosFrom k begun n picked)) σ₀ r₀ σ r
       level-end h =
-          subst (λ (cs : List (List ℕ)). Follows (k .room) (over k cs) σ₀ r₀ σ r) (ap (part 0) h ∙ whole) f
+          subst (λ (cs : List (List ℕ)). Follows (k .room) (over k rows cs) σ₀ r₀ σ r) (ap (part 0) h ∙ whole) f
 
       -- the run has stopped: the rest of the level changes nothing
-      pub level-stop : e ≤ k .first → r .going ≡ false → Follows (k .room) (over k (combosFrom k begun n picked)) σ₀ r₀ σ r
+      pub level-stop : e ≤ k .first → r .going ≡ false → Follows (k .room) (over k rows (combosFrom k begun n picked)) σ₀ r₀ σ r
       level-stop l g =
           let q : e + (k .first - e) ≡ k .first = omega arith in
-          over-then k σ₀ σ σ r₀ r r (part 0 e) (part e (k .first - e)) (combosFrom k begun n picked)
+          over-then k rows σ₀ σ σ r₀ r r (part 0 e) (part e (k .first - e)) (combosFrom k begun n picked)
           (sym (between-split begun _ _ _ e (k .first - e)) ∙ ap (part 0) q ∙ whole) f
           (follows-still (k .room) σ r _ (f .kept .fits) g)
 

@@ -17,20 +17,20 @@ use Rattle.passes.specs.declared.Verdict.{Verdict}
 use Rattle.passes.specs.declared.Verdict.the-variants.{Steps, Circle, Known, Full, New}
 use Rattle.rules.specs.Passes.{State, Ran, going, stopped, andThen, numbered, seven, noRoot, known, six, counted, stored, graphs, try}
 use Rattle.passes.specs.Slices.{Slices}
-use Rattle.passes.specs.Follow.{goesOn, stops, stateOf, ranOf, Follows, Ready, Picked, systemBy, seenIn, graphsOf, verdict, judged}
+use Rattle.passes.specs.Follow.{goesOn, stops, stateOf, ranOf, Follows, Ready, Picked, turnBy, systemBy, seenIn, graphsOf, verdict, judged}
 use Rattle.passes.proofs.Entries.{length-entries, seen-known, graphs-same, put, put-stay, put-entries, put-symbols, put-graphs, put-productions, put-kids}
 use Rattle.passes.proofs.Following.{kept-same, going-by}
 
 -- the verdict from the answers of the four tests
-pub judged-by : (k : Task) (symbols graphs : List ℕ) (r : Run) (picked : List ℕ) (steps circle known full : Bool) (graph : ℕ)
+pub judged-by : (k : Task) (rows symbols graphs : List ℕ) (r : Run) (picked : List ℕ) (steps circle known full : Bool) (graph : ℕ)
     → eqb (r .left) 0 ≡ steps
-    → circle ≡ systemBy k .circle (k .number) (graphsOf graphs k picked)
-    → graph ≡ systemBy k .graph (k .number) (graphsOf graphs k picked)
+    → circle ≡ systemBy (turnBy k rows) .circle (k .number) (graphsOf graphs k picked)
+    → graph ≡ systemBy (turnBy k rows) .graph (k .number) (graphsOf graphs k picked)
     → seenIn symbols graphs (k .symbol) graph (r .stored) ≡ known
     → eqb (r .stored) (k .room) ≡ full
-    → verdict steps circle known full graph ≡ judged k symbols graphs r picked
+    → verdict steps circle known full graph ≡ judged (turnBy k rows) symbols graphs r picked
 unfolding judged
-judged-by k symbols graphs r picked steps circle known full graph h₁ h₂ h₃ h₄ h₅ = cc
+judged-by k rows symbols graphs r picked steps circle known full graph h₁ h₂ h₃ h₄ h₅ = cc
 
 -- ---- what a verdict says of the tests
 
@@ -66,14 +66,14 @@ stores-by false false true d g h = absurd (false≢true h)
 stores-by false false false true g h = absurd (false≢true h)
 stores-by false false false false g h = refl
 
-module _ (k : Task) (symbols graphs : List ℕ) (r : Run) (picked : List ℕ) where
+module _ (k : Task) (rows symbols graphs : List ℕ) (r : Run) (picked : List ℕ) where
   -- a verdict that counts the closure: one is left
-  pub is-left : counts (judged k symbols graphs r picked) ≡ true → 1 ≤ r .left
+  pub is-left : counts (judged (turnBy k rows) symbols graphs r picked) ≡ true → 1 ≤ r .left
   unfolding judged
   is-left h = omega (arith, eqb-false (r .left) 0 (counts-by _ _ _ _ _ h))
 
   -- one that stores: there is room
-  pub has-room : stores (judged k symbols graphs r picked) ≡ true → r .stored ≤ k .room → r .stored < k .room
+  pub has-room : stores (judged (turnBy k rows) symbols graphs r picked) ≡ true → r .stored ≤ k .room → r .stored < k .room
   unfolding judged
   has-room h l = omega (arith, eqb-false (r .stored) (k .room) (stores-by _ _ _ _ _ h))
 
@@ -112,22 +112,22 @@ full-by room n l = go (eqb n room) refl
     go true e = le-leb room n (omega (arith, eqb-true n room e))
     go false e = lt-leb room n (omega (arith, eqb-false n room e))
 
-left-by : (k : Task) (p : ℕ) → systemBy k .left p ≡ k .symbol
+left-by : (k : Task) (rows : List ℕ) (p : ℕ) → systemBy (turnBy k rows) .left p ≡ k .symbol
 unfolding systemBy
-left-by k p = refl
+left-by k rows p = refl
 
-module _ (k : Task) (σ : Slices) (r : Run) (picked : List ℕ) (ready : Ready k σ r) (slots : Picked k (k .count) picked) where
+module _ (k : Task) (rows : List ℕ) (σ : Slices) (r : Run) (picked : List ℕ) (ready : Ready k σ r) (slots : Picked k (k .count) picked) where
   abbrev combo : List ℕ
   combo = take (k .count) picked
 
   abbrev rule : ℕ → State → Ran
-  rule limit = try (systemBy k) limit (k .room) (k .number) combo
+  rule limit = try (systemBy (turnBy k rows)) limit (k .room) (k .number) combo
 
   abbrev new : ℕ → Entry
   new graph = record { symbol = k .symbol; graph = graph; production = k .number; kids = picked }
 
   abbrev now : Verdict
-  now = judged k (σ .symbols) (σ .graphs) r picked
+  now = judged (turnBy k rows) (σ .symbols) (σ .graphs) r picked
 
   pub length-picked : length picked ≡ 7
   length-picked =
@@ -146,16 +146,16 @@ module _ (k : Task) (σ : Slices) (r : Run) (picked : List ℕ) (ready : Ready k
       ap (λ (x : Ran). andThen x (rule limit)) (going-by (r .going) (r .answer) (r .root) (stateOf limit σ r) (ready .going))
       ∙ rw (
         none-left limit (r .left) l,
-        left-by k (k .number),
+        left-by k rows (k .number),
         ← graphs-same σ (r .stored) combo picked-below,
         ← slots .slots,
-        ← seen-known σ (k .symbol) (systemBy k .graph (k .number) (graphsOf (σ .graphs) k picked)) (r .stored),
+        ← seen-known σ (k .symbol) (systemBy (turnBy k rows) .graph (k .number) (graphsOf (σ .graphs) k picked)) (r .stored),
         length-entries σ (r .stored),
         full-by (k .room) (r .stored) (ready .roomy .stored),
       )
-      (six-acted (eqb (r .left) 0) (systemBy k .circle (k .number) (graphsOf (σ .graphs) k picked))
-      (seenIn (σ .symbols) (σ .graphs) (k .symbol) (systemBy k .graph (k .number) (graphsOf (σ .graphs) k picked)) (r .stored))
-      (eqb (r .stored) (k .room)) (systemBy k .graph (k .number) (graphsOf (σ .graphs) k picked))
+      (six-acted (eqb (r .left) 0) (systemBy (turnBy k rows) .circle (k .number) (graphsOf (σ .graphs) k picked))
+      (seenIn (σ .symbols) (σ .graphs) (k .symbol) (systemBy (turnBy k rows) .graph (k .number) (graphsOf (σ .graphs) k picked)) (r .stored))
+      (eqb (r .stored) (k .room)) (systemBy (turnBy k rows) .graph (k .number) (graphsOf (σ .graphs) k picked))
       (k .number) picked (stateOf limit σ r) (counted (stateOf limit σ r)) (λ g. stored (new g) (stateOf limit σ r)))
 
   -- nothing is stored
@@ -184,22 +184,22 @@ module _ (k : Task) (σ : Slices) (r : Run) (picked : List ℕ) (ready : Ready k
   pub follows-circle : now ≡ Circle → Follows (k .room) rule σ r σ (stops (Circular (k .number)) picked (r .left - 1) (r .stored))
   follows-circle h =
       quiet Circle _ h refl (omega arith)
-      (λ limit l. rw (one-more limit l (is-left k (σ .symbols) (σ .graphs) r picked (ap counts h))))
+      (λ limit l. rw (one-more limit l (is-left k rows (σ .symbols) (σ .graphs) r picked (ap counts h))))
 
   pub follows-known : now ≡ Known → Follows (k .room) rule σ r σ (goesOn (r .left - 1) (r .stored))
   follows-known h =
       quiet Known _ h refl (omega arith)
-      (λ limit l. rw (one-more limit l (is-left k (σ .symbols) (σ .graphs) r picked (ap counts h))))
+      (λ limit l. rw (one-more limit l (is-left k rows (σ .symbols) (σ .graphs) r picked (ap counts h))))
 
   pub follows-full : now ≡ Full → Follows (k .room) rule σ r σ (stops OutOfRoom noRoot (r .left - 1) (r .stored))
   unfolding numbered
   follows-full h =
       quiet Full _ h refl (omega arith)
-      (λ limit l. rw (one-more limit l (is-left k (σ .symbols) (σ .graphs) r picked (ap counts h))))
+      (λ limit l. rw (one-more limit l (is-left k rows (σ .symbols) (σ .graphs) r picked (ap counts h))))
 
   module _ (graph : ℕ) (h : now ≡ New graph) where
     pub room-left : r .stored < k .room
-    room-left = has-room k (σ .symbols) (σ .graphs) r picked (ap stores h) (ready .roomy .stored)
+    room-left = has-room k rows (σ .symbols) (σ .graphs) r picked (ap stores h) (ready .roomy .stored)
 
     pub in-symbols : r .stored < length (σ .symbols)
     in-symbols = omega (arith, room-left, ready .roomy .symbols)
@@ -230,7 +230,7 @@ module _ (k : Task) (σ : Slices) (r : Run) (picked : List ℕ) (ready : Ready k
           ran =
               λ limit l. ap₂ (λ (es : List Entry) (n : ℕ). going (record { entries = es; made = n }))
               (rw add-one (put-entries σ (r .stored) (new graph) in-symbols in-graphs in-productions in-kids length-picked))
-              (one-more limit l (is-left k (σ .symbols) (σ .graphs) r picked (ap counts h)))
+              (one-more limit l (is-left k rows (σ .symbols) (σ .graphs) r picked (ap counts h)))
               ∙ sym
               (ap (λ (x : Verdict). acted x (k .number) picked (stateOf limit σ r) (counted (stateOf limit σ r)) (λ g. stored (new g) (stateOf limit σ r))) h)
               ∙ sym (tried limit l);

@@ -8,7 +8,7 @@ use Rattle.passes.specs.declared.Run.{Run}
 use Rattle.passes.specs.declared.Task.{Task}
 use Rattle.rules.specs.Passes.{System, State, Ran, andThen, entry, graphs, candidates, prefixed, combinations, try, tries, turn}
 use Rattle.passes.specs.Slices.{Slices}
-use Rattle.passes.specs.Follow.{entriesTo, stateOf, Follows, systemBy, under, combosFrom}
+use Rattle.passes.specs.Follow.{entriesTo, stateOf, Follows, turnBy, systemBy, under, combosFrom}
 use Rattle.passes.proofs.Following.{then-same, follows-here}
 use Rattle.passes.proofs.Levels.{over}
 
@@ -60,19 +60,19 @@ module _ (W U : System) (limit room p n : ℕ) (left : U .left p ≡ W .left p)
 -- ---- the turn of a task
 
 -- a task says of its production what the system W says
-pub record Agrees (W : System) (k : Task) : Type 0 where
-  pub left : systemBy k .left (k .number) ≡ W .left (k .number)
+pub record Agrees (W : System) (k : Task) (rows : List ℕ) : Type 0 where
+  pub left : systemBy (turnBy k rows) .left (k .number) ≡ W .left (k .number)
   pub rights : take (k .count) (k .rights) ≡ W .rights (k .number)
   pub long : length (W .rights (k .number)) ≡ k .count
-  pub graph : (gs : List ℕ) → length gs ≡ k .count → systemBy k .graph (k .number) gs ≡ W .graph (k .number) gs
-  pub circle : (gs : List ℕ) → length gs ≡ k .count → systemBy k .circle (k .number) gs ≡ W .circle (k .number) gs
+  pub graph : (gs : List ℕ) → length gs ≡ k .count → systemBy (turnBy k rows) .graph (k .number) gs ≡ W .graph (k .number) gs
+  pub circle : (gs : List ℕ) → length gs ≡ k .count → systemBy (turnBy k rows) .circle (k .number) gs ≡ W .circle (k .number) gs
 
 under-nothing : (cs : List (List ℕ)) → under [] cs ≡ cs
 unfolding under
 under-nothing [] = refl
 under-nothing (c ∷ cs) = ap (λ (l : List (List ℕ)). c ∷ l) (under-nothing cs)
 
-module _ (W : System) (k : Task) (agrees : Agrees W k) where
+module _ (W : System) (k : Task) (rows : List ℕ) (agrees : Agrees W k rows) where
   abbrev all : List Entry → List (List ℕ)
   all es = combinations (map (candidates es) (W .rights (k .number)))
 
@@ -89,13 +89,13 @@ module _ (W : System) (k : Task) (agrees : Agrees W k) where
 
   -- all combinations of the entries that were stored when the turn began
   pub turn-follows : (σ : Slices) (r : Run) (picked : List ℕ) (τ : Slices) (q : Run) → k .first ≡ r .stored
-      → Follows (k .room) (over k (combosFrom k (entriesTo σ (k .first)) 0 picked)) σ r τ q
+      → Follows (k .room) (over k rows (combosFrom k (entriesTo σ (k .first)) 0 picked)) σ r τ q
       → Follows (k .room) (λ limit. turn W limit (k .room) (k .number)) σ r τ q
   unfolding turn
   turn-follows σ r picked τ q e f =
       let es = entriesTo σ (k .first) in
-      follows-here (k .room) σ r (over k (combosFrom k es 0 picked)) (λ limit. turn W limit (k .room) (k .number)) τ q f
-      (λ limit. ap (λ (cs : List (List ℕ)). over k cs limit (stateOf limit σ r)) (combos-all es picked)
-      ∙ tries-same W (systemBy k) limit (k .room) (k .number) (k .count) (agrees .left) (agrees .graph) (agrees .circle)
+      follows-here (k .room) σ r (over k rows (combosFrom k es 0 picked)) (λ limit. turn W limit (k .room) (k .number)) τ q f
+      (λ limit. ap (λ (cs : List (List ℕ)). over k rows cs limit (stateOf limit σ r)) (combos-all es picked)
+      ∙ tries-same W (systemBy (turnBy k rows)) limit (k .room) (k .number) (k .count) (agrees .left) (agrees .graph) (agrees .circle)
       (all es) (each-all es) (stateOf limit σ r)
       ∙ ap (λ (n : ℕ). tries W limit (k .room) (k .number) (all (entriesTo σ n)) (stateOf limit σ r)) e)

@@ -30,7 +30,7 @@ use Rattle.passes.specs.declared.Task.{Task}
 use Rattle.rules.specs.Passes.{turn}
 use Rattle.rules.specs.Test.{systemOf}
 use Rattle.passes.specs.Slices.{Slices}
-use Rattle.passes.specs.Follow.{entriesTo, Follows, Roomy, Ready, systemBy, taskOf, combosFrom}
+use Rattle.passes.specs.Follow.{entriesTo, Follows, Roomy, Ready, systemBy, taskOf, ownOf, combosFrom}
 use Rattle.passes.proofs.Levels.{over}
 use Rattle.passes.proofs.Systems.{Agrees, turn-follows}
 
@@ -104,15 +104,15 @@ module _ (bs : List ℕ) (good : refusal 8 bs ≡ 0) where
     made : (gs : List ℕ) → length gs ≡ production g p .n → take (8 * suc (length gs)) (placedFrom 8 1 gs (own 8 (edgesOf g p) (replicate 64 0))) ≡ compound 8 (edgesOf g p) gs
     made gs h = table-compound 8 64 (edgesOf g p) gs (edges-within p (length gs) h) (omega (arith, h, few))
 
-    pub agrees : (room first : ℕ) → Agrees (systemOf 8 g) (taskOf bs p room first)
-    unfolding taskOf systemOf systemBy
+    pub agrees : (room first : ℕ) → Agrees (systemOf 8 g) (taskOf bs p room first) (ownOf bs p)
+    unfolding taskOf ownOf systemOf systemBy
     agrees room first =
         record {
           left = refl;
           rights = refl;
           long = length-take-le (production g p .n) (production g p .slots) (omega (arith, few, slots));
-          graph = λ gs h. ap (λ (rows : List ℕ). rootGraph 8 (closure rows)) (made gs h);
-          circle = λ gs h. ap (λ (rows : List ℕ). hasCircle (closure rows)) (made gs h);
+          graph = λ gs h. ap (λ (l : List ℕ). rootGraph 8 (closure l)) (made gs h);
+          circle = λ gs h. ap (λ (l : List ℕ). hasCircle (closure l)) (made gs h);
         }
 
   -- a turn begins
@@ -130,10 +130,11 @@ module _ (bs : List ℕ) (good : refusal 8 bs ≡ 0) where
         })
 
     -- where all its combinations are followed, the turn is
-    pub task-turn : (picked : List ℕ) (τ : Slices) (q : Run)
-        → Follows (k .room) (over k (combosFrom k (entriesTo σ (k .first)) 0 picked)) σ r τ q
+    pub task-turn : (rows : List ℕ) → rows ≡ ownOf bs p → (picked : List ℕ) (τ : Slices) (q : Run)
+        → Follows (k .room) (over k rows (combosFrom k (entriesTo σ (k .first)) 0 picked)) σ r τ q
         → Follows room (λ limit. turn (systemOf 8 g) limit room p) σ r τ q
     unfolding taskOf
-    task-turn picked τ q f =
-        turn-follows (systemOf 8 g) (taskOf bs p room (r .stored)) (agrees p there room (r .stored)) σ r picked τ q refl
-        (subst (λ (t : Task). Follows (t .room) (over t (combosFrom t (entriesTo σ (t .first)) 0 picked)) σ r τ q) made f)
+    task-turn rows own picked τ q f =
+        turn-follows (systemOf 8 g) (taskOf bs p room (r .stored)) (ownOf bs p) (agrees p there room (r .stored)) σ r picked τ q refl
+        (subst (λ (l : List ℕ). Follows room (over (taskOf bs p room (r .stored)) l (combosFrom (taskOf bs p room (r .stored)) (entriesTo σ (r .stored)) 0 picked)) σ r τ q) own
+        (subst (λ (t : Task). Follows (t .room) (over t rows (combosFrom t (entriesTo σ (t .first)) 0 picked)) σ r τ q) made f))

@@ -97,12 +97,20 @@ pub record Roomy (room : ℕ) (σ : Slices) (r : Run) : Type 0 where
 abbrev pub closedOver : List ℕ → List ℕ → List ℕ
 closedOver rows gs = closure (take (8 * suc (length gs)) (placedFrom 8 1 gs rows))
 
--- a task as a system, the same at each production
-unfoldable pub systemBy : Task → System
+-- a turn: its task, and the production's own rows
+pub record Turn : Type 0 where
+  pub task : Task
+  pub rows : List ℕ
+
+abbrev pub turnBy : Task → List ℕ → Turn
+turnBy k rows = record { task = k; rows = rows }
+
+-- a turn as a system, the same at each production
+unfoldable pub systemBy : Turn → System
 systemBy k =
     record {
-      left = λ p. k .symbol;
-      rights = λ p. take (k .count) (k .rights);
+      left = λ p. k .task .symbol;
+      rights = λ p. take (k .task .count) (k .task .rights);
       graph = λ p gs. rootGraph 8 (closedOver (k .rows) gs);
       circle = λ p gs. hasCircle (closedOver (k .rows) gs);
     }
@@ -115,10 +123,12 @@ taskOf bs p room first =
       symbol = production (grammarOf bs) p .left;
       count = production (grammarOf bs) p .n;
       rights = production (grammarOf bs) p .slots;
-      rows = own 8 (edgesOf (grammarOf bs) p) (replicate 64 0);
       room = room;
       first = first;
     }
+
+unfoldable pub ownOf : List ℕ → ℕ → List ℕ
+ownOf bs p = own 8 (edgesOf (grammarOf bs) p) (replicate 64 0)
 
 -- each combination behind the numbers that are chosen already
 unfoldable pub under : List ℕ → List (List ℕ) → List (List ℕ)
@@ -175,8 +185,9 @@ verdict false false true full graph = Known
 verdict false false false true graph = Full
 verdict false false false false graph = New graph
 
-unfoldable pub judged : Task → List ℕ → List ℕ → Run → List ℕ → Verdict
-judged k symbols graphs r picked =
-    verdict (eqb (r .left) 0) (systemBy k .circle (k .number) (graphsOf graphs k picked))
-    (seenIn symbols graphs (k .symbol) (systemBy k .graph (k .number) (graphsOf graphs k picked)) (r .stored))
-    (eqb (r .stored) (k .room)) (systemBy k .graph (k .number) (graphsOf graphs k picked))
+unfoldable pub judged : Turn → List ℕ → List ℕ → Run → List ℕ → Verdict
+judged t symbols graphs r picked =
+    let k = t .task in
+    let gs = graphsOf graphs k picked in
+    verdict (eqb (r .left) 0) (systemBy t .circle (k .number) gs) (seenIn symbols graphs (k .symbol) (systemBy t .graph (k .number) gs) (r .stored))
+    (eqb (r .stored) (k .room)) (systemBy t .graph (k .number) gs)

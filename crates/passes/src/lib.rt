@@ -21,8 +21,10 @@ ghost use Rattle.passes.specs.Follow.{
   Ready,
   Picked,
   PickedIn,
+  turnBy,
   systemBy,
   taskOf,
+  ownOf,
   combosFrom,
   seenIn,
   occursIn,
@@ -44,13 +46,12 @@ struct Run {
     stored: usize,
 }
 
-// The production whose turn it is, with its own rows, and how many entries were stored when the turn began.
+// The production whose turn it is, and how many entries were stored when the turn began. Its own rows are lent beside it.
 struct Task {
     number: u16,
     symbol: u16,
     count: usize,
     rights: [u16; 7],
-    rows: [u64; 64],
     room: usize,
     first: usize,
 }
@@ -77,35 +78,34 @@ fn wide(x: u16) -> usize
 }
 
 // The rows of the compound graph: the production's own, and each picked entry's pairs at its occurrence.
-fn compound(graphs: &[u64], task: Task, picked: [u16; 7]) -> [u64; 64]
+fn compound(graphs: &[u64], own: &[u64; 64], task: Task, picked: [u16; 7]) -> [u64; 64]
     requires { ⌜ PickedIn (now graphs) task picked ⌝ }
-    ensures { λ r. ⌜ r ≡ placedFrom 8 1 (graphsOf (now (graphs .entry)) task picked) (task .rows) ⌝ }
+    ensures { λ r. ⌜ r ≡ placedFrom 8 1 (graphsOf (now (graphs .entry)) task picked) (now (own .entry)) ⌝ }
 {
     let count = task.count;
-    let mut rows = task.rows;
+    let mut rows = *own;
     let mut k = 0;
     while k < count {
         let kid = wide(picked[k]);
         let pairs = graphs[kid];
         k += 1;
-        let next = graph::place(rows, pairs, k);
-        rows = next;
+        graph::place(&mut rows, pairs, k);
     }
     rows
 }
 
 // One closure.
-fn closure(graphs: &[u64], task: Task, picked: [u16; 7]) -> Closed
+fn closure(graphs: &[u64], own: &[u64; 64], task: Task, picked: [u16; 7]) -> Closed
     requires { ⌜ PickedIn (now graphs) task picked ⌝ }
-    ensures { λ r. ⌜ (r .circle ≡ systemBy task .circle (task .number) (graphsOf (now (graphs .entry)) task picked))
-        × (r .graph ≡ systemBy task .graph (task .number) (graphsOf (now (graphs .entry)) task picked)) ⌝ }
+    ensures { λ r. ⌜ (r .circle ≡ systemBy (turnBy task (now (own .entry))) .circle (task .number) (graphsOf (now (graphs .entry)) task picked))
+        × (r .graph ≡ systemBy (turnBy task (now (own .entry))) .graph (task .number) (graphsOf (now (graphs .entry)) task picked)) ⌝ }
 {
     let occurrences = task.count + 1;
-    let rows = compound(graphs, task, picked);
-    let closed = graph::close(rows, occurrences);
+    let mut rows = compound(graphs, own, task, picked);
+    graph::close(&mut rows, occurrences);
     Closed {
-        circle: graph::has_circle(closed, occurrences),
-        graph: graph::root_graph(closed),
+        circle: graph::has_circle(&rows, occurrences),
+        graph: graph::root_graph(&rows),
     }
 }
 
@@ -127,14 +127,21 @@ fn seen(symbols: &[u16], graphs: &[u64], stored: usize, symbol: u16, graph: u64)
 }
 
 // Steps 1 to 5.
-fn judge(symbols: &[u16], graphs: &[u64], task: Task, picked: [u16; 7], run: Run) -> Verdict
+fn judge(
+    symbols: &[u16],
+    graphs: &[u64],
+    own: &[u64; 64],
+    task: Task,
+    picked: [u16; 7],
+    run: Run,
+) -> Verdict
     requires { ⌜ (run .stored ≤ length (now symbols)) × (run .stored ≤ length (now graphs)) × PickedIn (now graphs) task picked ⌝ }
-    ensures { λ r. ⌜ r ≡ judged task (now (symbols .entry)) (now (graphs .entry)) run picked ⌝ }
+    ensures { λ r. ⌜ r ≡ judged (turnBy task (now (own .entry))) (now (symbols .entry)) (now (graphs .entry)) run picked ⌝ }
 {
     if run.left == 0 {
         return Verdict::Steps;
     }
-    let made = closure(graphs, task, picked);
+    let made = closure(graphs, own, task, picked);
     if made.circle {
         return Verdict::Circle;
     }
@@ -187,16 +194,17 @@ fn try_one(
     graphs: &mut [u64],
     productions: &mut [u16],
     kids: &mut [u16],
+    own: &[u64; 64],
     task: Task,
     picked: [u16; 7],
     run: Run,
 ) -> Run
     requires { ⌜ Ready task (slices (now symbols) (now graphs) (now productions) (now kids)) run × Picked task (task .count) picked ⌝ }
-    ensures { λ r. ⌜ Follows (task .room) (λ limit. stated.try (systemBy task) limit (task .room) (task .number) (take (task .count) picked))
+    ensures { λ r. ⌜ Follows (task .room) (λ limit. stated.try (systemBy (turnBy task (now (own .entry)))) limit (task .room) (task .number) (take (task .count) picked))
         (slices (now (symbols .entry)) (now (graphs .entry)) (now (productions .entry)) (now (kids .entry))) run
         (slices (now (symbols .exit)) (now (graphs .exit)) (now (productions .exit)) (now (kids .exit))) r ⌝ }
 {
-    let verdict = judge(symbols, graphs, task, picked, run);
+    let verdict = judge(symbols, graphs, own, task, picked, run);
     let left = run.left;
     let stored = run.stored;
     match verdict {
@@ -229,6 +237,7 @@ fn level(
     graphs: &mut [u64],
     productions: &mut [u16],
     kids: &mut [u16],
+    own: &[u64; 64],
     task: Task,
     at: usize,
     picked: [u16; 7],
@@ -236,13 +245,13 @@ fn level(
 ) -> Run
     requires { ⌜ (at ≤ task .count) × Ready task (slices (now symbols) (now graphs) (now productions) (now kids)) run × Picked task at picked ⌝ }
     ensures { λ r. ⌜ Follows (task .room)
-        (λ limit. stated.tries (systemBy task) limit (task .room) (task .number)
+        (λ limit. stated.tries (systemBy (turnBy task (now (own .entry)))) limit (task .room) (task .number)
         (combosFrom task (entriesTo (slices (now (symbols .entry)) (now (graphs .entry)) (now (productions .entry)) (now (kids .entry))) (task .first)) at picked))
         (slices (now (symbols .entry)) (now (graphs .entry)) (now (productions .entry)) (now (kids .entry))) run
         (slices (now (symbols .exit)) (now (graphs .exit)) (now (productions .exit)) (now (kids .exit))) r ⌝ }
 {
     if at == task.count {
-        return try_one(symbols, graphs, productions, kids, task, picked, run);
+        return try_one(symbols, graphs, productions, kids, own, task, picked, run);
     }
     let rights = task.rights;
     let right = rights[at];
@@ -258,7 +267,17 @@ fn level(
         e += 1;
         if symbol == right {
             let next = put(picked, at, here as u16);
-            now = level(symbols, graphs, productions, kids, task, at + 1, next, now);
+            now = level(
+                symbols,
+                graphs,
+                productions,
+                kids,
+                own,
+                task,
+                at + 1,
+                next,
+                now,
+            );
         }
     }
     now
@@ -297,14 +316,12 @@ fn all_occur(symbols: &[u16], task: Task) -> bool
     true
 }
 
-// The turn of the production `number`, whose own rows are made here, once.
+// The turn of the production `number`.
 fn task_of(table: &[u8], number: usize, room: usize, first: usize) -> Task
     requires { ⌜ (refusal 8 (now table) ≡ 0) × (number < P (now table)) ⌝ }
     ensures { λ r. ⌜ r ≡ taskOf (now (table .entry)) number room first ⌝ }
 {
     let production = grammar::production_of(table, number);
-    let run = grammar::run_of(table, number);
-    let rows = graph::own_rows(run);
     let rights = production.slots;
     let count = wide(production.n);
     Task {
@@ -312,13 +329,21 @@ fn task_of(table: &[u8], number: usize, room: usize, first: usize) -> Task
         symbol: production.left,
         count,
         rights,
-        rows,
         room,
         first,
     }
 }
 
-// One turn. Where a right symbol has no entry it ends at once.
+// The own rows of the production `number`.
+fn own_of(table: &[u8], number: usize) -> [u64; 64]
+    requires { ⌜ (refusal 8 (now table) ≡ 0) × (number < P (now table)) ⌝ }
+    ensures { λ r. ⌜ r ≡ ownOf (now (table .entry)) number ⌝ }
+{
+    let run = grammar::run_of(table, number);
+    graph::own_rows(run)
+}
+
+// One turn. Where a right symbol has no entry it ends at once; else the production's own rows are made, once.
 fn turn(
     table: &[u8],
     number: usize,
@@ -338,7 +363,18 @@ fn turn(
     if !all_occur(symbols, task) {
         return run;
     }
-    level(symbols, graphs, productions, kids, task, 0, [0u16; 7], run)
+    let own = own_of(table, number);
+    level(
+        symbols,
+        graphs,
+        productions,
+        kids,
+        &own,
+        task,
+        0,
+        [0u16; 7],
+        run,
+    )
 }
 
 // One pass: the productions by number.

@@ -1,70 +1,13 @@
--- `graph::has_circle` meets its contract. The loop's invariant: bit 0 of `seen` says whether a node below i has an edge to itself. Assumes nothing.
-use mathlib.Core.Path.{_≡_, refl, ap, _∙_}
-use Prim.Native.Nat.{ℕ, _*_, _-_, _%_, _≤_}
-use native.Mathlib.Omega.{arith}
-use lib.Bits.{and-mask}
-use lib.Dec.{eqb}
+-- `graph::has_circle` meets its contract. Assumes nothing.
 use borrow.Author.Needs.{needs}
-use Rattle.graph.specs.Rows.{circleTo}
-use Rattle.graph.proofs.Turns.{circle-more, circle-clipped}
 use Rattle.graph.proofs.has_circle.Statement.{statement}
 use Rattle.graph.proofs.has_circle.Tie as tie
 
-abbrev Inv-loop : tie.InvT-loop
-Inv-loop occurrences rows n seen₀ i₀ seen i = (i ≤ n) × (eqb (seen % 2) 1 ≡ circleTo i rows)
+circle-in-requires : tie.Need-circle-in-requires
+circle-in-requires c κs = search needs
 
-abbrev μ-loop : tie.MeasureT-loop
-μ-loop occurrences rows n seen₀ i₀ seen i = n - i
-
-nodes-requires : tie.Need-nodes-requires Inv-loop μ-loop
-nodes-requires c κs = search needs
-
-loop-holds : tie.Need-loop-holds Inv-loop μ-loop
-unfolding circleTo
-loop-holds c = (omega arith, refl)
-
-mul-seen : tie.Need-mul-seen Inv-loop μ-loop
-mul-seen c = search needs
-
-array-read-seen : tie.Need-array-read-seen Inv-loop μ-loop
-array-read-seen c = search needs
-
-shr-seen : tie.Need-shr-seen Inv-loop μ-loop
-shr-seen c = search needs
-
-add-i : tie.Need-add-i Inv-loop μ-loop
-add-i c = search needs
-
-loop-less : tie.Need-loop-less Inv-loop μ-loop
-loop-less c = search needs
-
-loop-again : tie.Need-loop-again Inv-loop μ-loop
-loop-again c =
-    let at = c .before in
-    (omega arith, circle-more (at .loop .i) (at .loop .seen) (at .before .before .args .t1) (at .loop .inv .1))
-
-returns : tie.Need-returns Inv-loop μ-loop
-returns c =
-    let at = c .before in
-    let n = at .before .nodes .result in
-    let args = at .before .before .args in
-    let e : at .loop .i ≡ n = omega arith in
-    ap (λ (x : ℕ). eqb x 1) (and-mask (at .loop .seen) 1)
-    ∙ (rw e at (at .loop .inv .1))
-    ∙ circle-clipped (8 * args .occurrences) n (args .t1) (omega arith)
+returns : tie.Need-returns
+returns c = c .circle-in .ensures
 
 pub has-circle-spec : {M : Type 1} → statement M
-has-circle-spec =
-    tie.close
-    (tie.spec
-    Inv-loop
-    μ-loop
-    nodes-requires
-    loop-holds
-    mul-seen
-    array-read-seen
-    shr-seen
-    add-i
-    loop-less
-    loop-again
-    returns)
+has-circle-spec = tie.close (tie.spec circle-in-requires returns)

@@ -23,8 +23,8 @@ loop-holds c = (omega arith, refl)
 mul-graph : tie.Need-mul-graph Inv-loop μ-loop
 mul-graph c = search needs
 
-array-read-graph : tie.Need-array-read-graph Inv-loop μ-loop
-array-read-graph c = search needs
+element-copy-out-graph : tie.Need-element-copy-out-graph Inv-loop μ-loop
+element-copy-out-graph c = search needs
 
 mul-graph-2 : tie.Need-mul-graph-2 Inv-loop μ-loop
 mul-graph-2 c = search needs
@@ -40,8 +40,8 @@ loop-less c = search needs
 
 loop-again : tie.Need-loop-again Inv-loop μ-loop
 loop-again c =
-    let at = c .before in
-    let rows = at .before .args .t1 in
+    let at = c .before .before in
+    let rows = at .before .args .rows .now in
     let a = at .loop .a in
     (omega arith, root-more 8 a rows (at .loop .inv .1) (block-fits 64 8 (8 * a) (getD rows a 0) (omega arith)))
 
@@ -58,7 +58,7 @@ root-graph-spec =
     μ-loop
     loop-holds
     mul-graph
-    array-read-graph
+    element-copy-out-graph
     mul-graph-2
     shl-graph
     add-a

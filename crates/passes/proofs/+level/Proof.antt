@@ -21,26 +21,26 @@ use Rattle.passes.proofs.try_one.Reads as try-one-reads
 use Rattle.passes.proofs.+level.{statement}
 use Rattle.passes.proofs.+level.Tie.{close}
 
-abbrev μ-level : Measures 4 level-kinds.ps ℕ
-μ-level κs a = a .1 .1 .1 .1 .0 .count - a .1 .1 .1 .1 .1 .0
+abbrev μ-level : Measures 5 level-kinds.ps ℕ
+μ-level κs a = a .1 .1 .1 .1 .1 .0 .count - a .1 .1 .1 .1 .1 .1 .0
 
-abbrev level-at : ℕ → In 4 level-kinds.ps
-level-at t = and 4 level-kinds.ps (is 4 level-kinds.ps μ-level t) level.Pre
+abbrev level-at : ℕ → In 5 level-kinds.ps
+level-at t = and 5 level-kinds.ps (is 5 level-kinds.ps μ-level t) level.Pre
 
-abbrev level-below : ℕ → In 4 level-kinds.ps
-level-below t = and 4 level-kinds.ps (falls 4 level-kinds.ps _<_ μ-level t) level.Pre
+abbrev level-below : ℕ → In 5 level-kinds.ps
+level-below t = and 5 level-kinds.ps (falls 5 level-kinds.ps _<_ μ-level t) level.Pre
 
 -- what the callees ask and ensure
 abbrev K : ℕ → level-lts.Claims
 K t = (try-one-reads.Asked, try-one-reads.Learnt, put-reads.Asked, put-reads.Learnt, level-below t, level.Post)
 
 abbrev level-Inv-loop : level-lts.InvT-loop
-level-Inv-loop symbols₀ graphs₀ productions₀ kids₀ task at picked right first now₀ e₀ symbols graphs productions kids now e =
+level-Inv-loop symbols₀ graphs₀ productions₀ kids₀ own task at picked right first now₀ e₀ symbols graphs productions kids now e =
     (e ≤ first)
-    × Passed task (slices symbols₀ graphs₀ productions₀ kids₀) now₀ at picked e (slices symbols graphs productions kids) now
+    × Passed task own (slices symbols₀ graphs₀ productions₀ kids₀) now₀ at picked e (slices symbols graphs productions kids) now
 
 abbrev level-μ-loop : level-lts.MeasureT-loop
-level-μ-loop symbols₀ graphs₀ productions₀ kids₀ task at picked right first now₀ e₀ symbols graphs productions kids now e =
+level-μ-loop symbols₀ graphs₀ productions₀ kids₀ own task at picked right first now₀ e₀ symbols graphs productions kids now e =
     first - e
 
 module _ (t : ℕ) (c : level-lts.At-loop (K t) (level-at t) level.Post level-Inv-loop level-μ-loop) where
@@ -97,7 +97,7 @@ level-same-length-4 t c = search needs
 level-returns : (t : ℕ) → level-lts.Need-returns (K t) (level-at t) level.Post level-Inv-loop level-μ-loop
 level-returns t c =
     let a = c .before .before .before .before .before .before .before .before .before .before .before .before .before .before .before .before .before .before .before .args in
-    level-leaf (a .task) _ _ (a .run) (a .at) (a .picked) _ _ (c .before .before .before .before .before .before .before .before .before .before .before .before .before .if1 .taken) (c .before .before .before .before .before .before .before .before .try-one .ensures)
+    level-leaf (a .task) (a .own .now) _ _ (a .run) (a .at) (a .picked) _ _ (c .before .before .before .before .before .before .before .before .before .before .before .before .before .if1 .taken) (c .before .before .before .before .before .before .before .before .try-one .ensures)
 
 level-mul-right : (t : ℕ) → level-lts.Need-mul-right (K t) (level-at t) level.Post level-Inv-loop level-μ-loop
 level-mul-right t c = search needs
@@ -108,7 +108,7 @@ level-array-read-right t c = search needs
 level-loop-holds : (t : ℕ) → level-lts.Need-loop-holds (K t) (level-at t) level.Post level-Inv-loop level-μ-loop
 level-loop-holds t c =
     let s = c .before .before .before .before .before .before .before in
-    (search needs, level-start (s .args .task) _ (s .args .run) (s .pre .1 .1) (s .args .at) (s .args .picked))
+    (search needs, level-start (s .args .task) (s .args .own .now) _ (s .args .run) (s .pre .1 .1) (s .args .at) (s .args .picked))
 
 level-same-length-5 : (t : ℕ) → level-lts.Need-same-length-5 (K t) (level-at t) level.Post level-Inv-loop level-μ-loop
 level-same-length-5 t c = kept t (c .before .before .before) .symbols .long
@@ -125,7 +125,7 @@ level-same-length-8 t c = kept t (c .before .before .before) .kids .long
 level-returns-2 : (t : ℕ) → level-lts.Need-returns-2 (K t) (level-at t) level.Post level-Inv-loop level-μ-loop
 level-returns-2 t c =
     let l = c .before .before .before in
-    level-stop (start t l .args .task) (σ₀ t l) (start t l .args .run) (ready t l) (start t l .args .at) (start t l .args .picked) (σ t l) (l .loop .now) (l .loop .e) (l .loop .inv .1) (lower t l) (long t l) (l .loop .inv .0) (not-true _ (c .if2 .taken))
+    level-stop (start t l .args .task) (start t l .args .own .now) (σ₀ t l) (start t l .args .run) (ready t l) (start t l .args .at) (start t l .args .picked) (σ t l) (l .loop .now) (l .loop .e) (l .loop .inv .1) (lower t l) (long t l) (l .loop .inv .0) (not-true _ (c .if2 .taken))
 
 level-mul-symbol : (t : ℕ) → level-lts.Need-mul-symbol (K t) (level-at t) level.Post level-Inv-loop level-μ-loop
 level-mul-symbol t c =
@@ -176,7 +176,7 @@ level-loop-again : (t : ℕ) → level-lts.Need-loop-again (K t) (level-at t) le
 level-loop-again t c =
     let l = c .before .before .before .before .before .before .before .before .before .before .before .before .before .before .before .before .before .before .before in (
       omega (arith, c .before .before .before .before .before .before .before .before .before .before .before .before .before .before .before .before .before .before .loop-test .taken),
-      level-hit (start t l .args .task) (σ₀ t l) (start t l .args .run) (ready t l) (start t l .args .at) (start t l .args .picked) (σ t l) (l .loop .now) (l .loop .e) (l .loop .inv .1) (c .before .before .before .before .before .before .before .before .before .before .before .before .before .before .before .before .before .before .loop-test .taken) (in-picked t l) (c .before .before .before .before .before .before .before .before .before .before .before .before .before .before .if3 .taken) (c .before .before .before .before .before .before .before .before .before .before .before .before .before .put .result) _ _ (c .before .before .before .before .before .before .before .before .before .before .before .before .before .put .ensures) (c .before .before .before .before .before .before .before .before .level .ensures),
+      level-hit (start t l .args .task) (start t l .args .own .now) (σ₀ t l) (start t l .args .run) (ready t l) (start t l .args .at) (start t l .args .picked) (σ t l) (l .loop .now) (l .loop .e) (l .loop .inv .1) (c .before .before .before .before .before .before .before .before .before .before .before .before .before .before .before .before .before .before .loop-test .taken) (in-picked t l) (c .before .before .before .before .before .before .before .before .before .before .before .before .before .before .if3 .taken) (c .before .before .before .before .before .before .before .before .before .before .before .before .before .put .result) _ _ (c .before .before .before .before .before .before .before .before .before .before .before .before .before .put .ensures) (c .before .before .before .before .before .before .before .before .level .ensures),
     )
 
 level-loop-less-2 : (t : ℕ) → level-lts.Need-loop-less-2 (K t) (level-at t) level.Post level-Inv-loop level-μ-loop
@@ -188,7 +188,7 @@ level-loop-again-2 : (t : ℕ) → level-lts.Need-loop-again-2 (K t) (level-at t
 level-loop-again-2 t c =
     let l = c .before .before .before .before .before in (
       omega (arith, c .before .before .before .before .loop-test .taken),
-      level-other (start t l .args .task) (σ₀ t l) (start t l .args .run) (ready t l) (start t l .args .at) (start t l .args .picked) (σ t l) (l .loop .now) (l .loop .e) (l .loop .inv .1) (c .before .before .before .before .loop-test .taken) (c .if3 .left),
+      level-other (start t l .args .task) (start t l .args .own .now) (σ₀ t l) (start t l .args .run) (ready t l) (start t l .args .at) (start t l .args .picked) (σ t l) (l .loop .now) (l .loop .e) (l .loop .inv .1) (c .before .before .before .before .loop-test .taken) (c .if3 .left),
     )
 
 level-same-length-9 : (t : ℕ) → level-lts.Need-same-length-9 (K t) (level-at t) level.Post level-Inv-loop level-μ-loop
@@ -206,7 +206,7 @@ level-same-length-12 t c = kept t (c .before) .kids .long
 level-returns-3 : (t : ℕ) → level-lts.Need-returns-3 (K t) (level-at t) level.Post level-Inv-loop level-μ-loop
 level-returns-3 t c =
     let l = c .before in
-    level-end (start t l .args .task) (σ₀ t l) (start t l .args .run) (ready t l) (start t l .args .at) (start t l .args .picked) (σ t l) (l .loop .now) (l .loop .e) (l .loop .inv .1) (lower t l) (long t l) (omega (arith, l .loop .inv .0, c .loop-test .left))
+    level-end (start t l .args .task) (start t l .args .own .now) (σ₀ t l) (start t l .args .run) (ready t l) (start t l .args .at) (start t l .args .picked) (σ t l) (l .loop .now) (l .loop .e) (l .loop .inv .1) (lower t l) (long t l) (omega (arith, l .loop .inv .0, c .loop-test .left))
 
 pub +level-spec : {M : Type 1} → statement M
 +level-spec = close μ-level λ t. level-lts.spec (K t)

@@ -8,27 +8,27 @@ use lib.ListN.{length, getD, take, length-map, length-take}
 use Rattle.graph.specs.Rows.{placedFrom, closedFirst, closure, hasCircle, rootGraph}
 use Rattle.graph.proofs.Parts.{take-closed, root-closed}
 use Rattle.passes.specs.declared.Task.{Task}
-use Rattle.passes.specs.Follow.{systemBy, graphsOf}
+use Rattle.passes.specs.Follow.{turnBy, systemBy, graphsOf}
 use Rattle.passes.proofs.closure.Statement.{statement}
 use Rattle.passes.proofs.closure.Tie as tie
 
 -- the first rows of the closed table are the closure of the compound graph's rows
-module _ (k : Task) (graphs picked : List ℕ) (few : k .count ≤ length picked) (table closed : List ℕ)
-    (placed : table ≡ placedFrom 8 1 (graphsOf graphs k picked) (k .rows)) (done : closed ≡ closedFirst (8 * (k .count + 1)) table) where
+module _ (k : Task) (rows graphs picked : List ℕ) (few : k .count ≤ length picked) (table closed : List ℕ)
+    (placed : table ≡ placedFrom 8 1 (graphsOf graphs k picked) rows) (done : closed ≡ closedFirst (8 * (k .count + 1)) table) where
   abbrev gs : List ℕ
   gs = graphsOf graphs k picked
 
   nodes : 8 * (k .count + 1) ≡ 8 * suc (length gs)
   nodes = omega (arith, length-map (take (k .count) picked) (λ i. getD graphs i 0), length-take (k .count) picked)
 
-  closed-circle : hasCircle (take (8 * (k .count + 1)) closed) ≡ systemBy k .circle (k .number) gs
+  closed-circle : hasCircle (take (8 * (k .count + 1)) closed) ≡ systemBy (turnBy k rows) .circle (k .number) gs
   unfolding systemBy
   closed-circle =
       ap (λ (l : List ℕ). hasCircle (take (8 * (k .count + 1)) l)) done
       ∙ ap hasCircle (take-closed (8 * (k .count + 1)) table)
       ∙ rw (nodes, placed)
 
-  closed-root : rootGraph 8 closed ≡ systemBy k .graph (k .number) gs
+  closed-root : rootGraph 8 closed ≡ systemBy (turnBy k rows) .graph (k .number) gs
   unfolding systemBy
   closed-root =
       ap (rootGraph 8) done ∙ root-closed 8 (8 * (k .count + 1)) table (omega arith) ∙ rw (nodes, placed)
@@ -50,14 +50,14 @@ root-graph-requires c κs = search needs
 
 returns : tie.Need-returns
 returns c =
-    let s = c .before .before .before .before .before .before in
-    let table = c .before .before .before .compound in
-    let closed = c .before .before .close in
+    let table = c .before .before .before .before .before .before .compound in
+    let s = c .before .before .before .before .before .before .before .before .before in
+    let closed = c .before .before .before .before .close in
     let few : s .args .task .count ≤ length (s .args .picked) = omega (arith, s .pre .0) in (
-      c .before .has-circle .ensures
-          ∙ closed-circle (s .args .task) (s .args .graphs .now) (s .args .picked) few (table .result) (closed .result) (table .ensures) (closed .ensures),
+      c .before .before .has-circle .ensures
+          ∙ closed-circle (s .args .task) (s .args .own .now) (s .args .graphs .now) (s .args .picked) few (table .result) (closed .last .0) (table .ensures) (closed .ensures),
       c .root-graph .ensures
-          ∙ closed-root (s .args .task) (s .args .graphs .now) (s .args .picked) few (table .result) (closed .result) (table .ensures) (closed .ensures),
+          ∙ closed-root (s .args .task) (s .args .own .now) (s .args .graphs .now) (s .args .picked) few (table .result) (closed .last .0) (table .ensures) (closed .ensures),
     )
 
 pub closure-spec : {M : Type 1} → statement M

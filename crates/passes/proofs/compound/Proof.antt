@@ -36,11 +36,11 @@ unfolding placedFrom
 none-left gs rows k h = rw (drop-of-length-le gs {i = k} h)
 
 abbrev Inv-loop : tie.InvT-loop
-Inv-loop graphs picked count rows₀ k₀ rows k =
+Inv-loop graphs own picked count rows₀ k₀ rows k =
     (k ≤ count) × (placedFrom 8 (suc k) (drop k (picks graphs count picked)) rows ≡ placedFrom 8 1 (picks graphs count picked) rows₀)
 
 abbrev μ-loop : tie.MeasureT-loop
-μ-loop graphs picked count rows₀ k₀ rows k = count - k
+μ-loop graphs own picked count rows₀ k₀ rows k = count - k
 
 loop-holds : tie.Need-loop-holds Inv-loop μ-loop
 loop-holds c = (search needs, refl)
@@ -72,18 +72,18 @@ loop-less c = search needs
 
 loop-again : tie.Need-loop-again Inv-loop μ-loop
 loop-again c =
-    let s = c .before .before .before .before .before .before .before in
-    let l = c .before .before .before .before .loop in
-    let below = c .before .before .before .loop-test .taken in
-    let few : s .args .task .count ≤ length (s .args .t3) = omega (arith, s .pre .0) in
-    let gs = picks (s .args .graphs .now) (s .args .task .count) (s .args .t3) in (
+    let s = c .before .before .before .before .before .before .before .before in
+    let l = c .before .before .before .before .before .loop in
+    let below = c .before .before .before .before .loop-test .taken in
+    let few : s .args .task .count ≤ length (s .args .t4) = omega (arith, s .pre .0) in
+    let gs = picks (s .args .graphs .now) (s .args .task .count) (s .args .t4) in (
       search needs,
       ap (placedFrom 8 (suc (l .k + 1)) (drop (l .k + 1) gs))
           (c .place .ensures
           ∙ ap (λ (g : ℕ). placed 8 (l .k + 1) g (l .rows))
-          (ap (λ (i : ℕ). getD (s .args .graphs .now) i 0) (c .before .before .wide .ensures)
-          ∙ sym (pick-at (s .args .graphs .now) (s .args .task .count) (s .args .t3) (l .k) few below)))
-          ∙ one-placed gs (l .rows) (l .k) (omega (arith, below, length-picks (s .args .graphs .now) (s .args .task .count) (s .args .t3) few))
+          (ap (λ (i : ℕ). getD (s .args .graphs .now) i 0) (c .before .before .before .wide .ensures)
+          ∙ sym (pick-at (s .args .graphs .now) (s .args .task .count) (s .args .t4) (l .k) few below)))
+          ∙ one-placed gs (l .rows) (l .k) (omega (arith, below, length-picks (s .args .graphs .now) (s .args .task .count) (s .args .t4) few))
           ∙ l .inv .1,
     )
 
@@ -91,9 +91,9 @@ returns : tie.Need-returns Inv-loop μ-loop
 returns c =
     let s = c .before .before .before .before in
     let l = c .before .loop in
-    let few : s .args .task .count ≤ length (s .args .t3) = omega (arith, s .pre .0) in
-    none-left (picks (s .args .graphs .now) (s .args .task .count) (s .args .t3)) (l .rows) (l .k)
-    (omega (arith, c .loop-test .left, length-picks (s .args .graphs .now) (s .args .task .count) (s .args .t3) few))
+    let few : s .args .task .count ≤ length (s .args .t4) = omega (arith, s .pre .0) in
+    none-left (picks (s .args .graphs .now) (s .args .task .count) (s .args .t4)) (l .rows) (l .k)
+    (omega (arith, c .loop-test .left, length-picks (s .args .graphs .now) (s .args .task .count) (s .args .t4) few))
     ∙ l .inv .1
 
 pub compound-spec : {M : Type 1} → statement M

@@ -12,7 +12,7 @@ returns : tie.Need-returns
 unfolding verdict
 returns c =
     let a = c .before .before .before .before .args in
-    judged-by (a .task) (a .symbols .now) (a .graphs .now) (a .run) (a .picked) true _ _ _ _
+    judged-by (a .task) (a .own .now) (a .symbols .now) (a .graphs .now) (a .run) (a .picked) true _ _ _ _
     (eq-eqb _ _ (c .if1 .taken)) refl refl refl refl
 
 closure-requires : tie.Need-closure-requires
@@ -23,7 +23,7 @@ unfolding verdict
 returns-2 c =
     let a = c .before .before .before .before .before .before .args in
     let made = c .before .closure in
-    judged-by (a .task) (a .symbols .now) (a .graphs .now) (a .run) (a .picked) false true _ _ _
+    judged-by (a .task) (a .own .now) (a .symbols .now) (a .graphs .now) (a .run) (a .picked) false true _ _ _
     (ne-eqb _ _ (c .before .before .if1 .left)) (sym (c .if2 .taken) ∙ made .ensures .0) refl refl refl
 
 seen-requires : tie.Need-seen-requires
@@ -34,7 +34,7 @@ unfolding verdict
 returns-3 c =
     let a = c .before .before .before .before .before .before .before .before .args in
     let made = c .before .before .before .closure in
-    judged-by (a .task) (a .symbols .now) (a .graphs .now) (a .run) (a .picked) false false true _ (made .result .graph)
+    judged-by (a .task) (a .own .now) (a .symbols .now) (a .graphs .now) (a .run) (a .picked) false false true _ (made .result .graph)
     (ne-eqb _ _ (c .before .before .before .before .if1 .left)) (sym (c .before .before .if2 .left) ∙ made .ensures .0) (made .ensures .1)
     (sym (c .before .seen .ensures) ∙ c .if3 .taken) refl
 
@@ -43,7 +43,7 @@ unfolding verdict
 returns-4 c =
     let a = c .before .before .before .before .before .before .before .before .before .before .before .args in
     let made = c .before .before .before .before .before .before .closure in
-    judged-by (a .task) (a .symbols .now) (a .graphs .now) (a .run) (a .picked) false false false true (made .result .graph)
+    judged-by (a .task) (a .own .now) (a .symbols .now) (a .graphs .now) (a .run) (a .picked) false false false true (made .result .graph)
     (ne-eqb _ _ (c .before .before .before .before .before .before .before .if1 .left))
     (sym (c .before .before .before .before .before .if2 .left) ∙ made .ensures .0) (made .ensures .1)
     (sym (c .before .before .before .before .seen .ensures) ∙ c .before .before .before .if3 .left) (eq-eqb _ _ (c .if4 .taken))
@@ -53,7 +53,7 @@ unfolding verdict
 returns-5 c =
     let a = c .before .before .before .before .before .before .before .before .before .before .before .args in
     let made = c .before .before .before .before .before .before .closure in
-    judged-by (a .task) (a .symbols .now) (a .graphs .now) (a .run) (a .picked) false false false false (made .result .graph)
+    judged-by (a .task) (a .own .now) (a .symbols .now) (a .graphs .now) (a .run) (a .picked) false false false false (made .result .graph)
     (ne-eqb _ _ (c .before .before .before .before .before .before .before .if1 .left))
     (sym (c .before .before .before .before .before .if2 .left) ∙ made .ensures .0) (made .ensures .1)
     (sym (c .before .before .before .before .seen .ensures) ∙ c .before .before .before .if3 .left) (ne-eqb _ _ (c .if4 .left))

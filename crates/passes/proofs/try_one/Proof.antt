@@ -7,7 +7,7 @@ use native.Mathlib.Omega.{arith}
 use Rattle.passes.specs.declared.Verdict.{Verdict}
 use Rattle.passes.specs.declared.Verdict.the-variants.{Steps, Circle, Known, Full, New}
 use Rattle.passes.specs.Slices.{Slices, slices}
-use Rattle.passes.specs.Follow.{Ready, Picked, judged}
+use Rattle.passes.specs.Follow.{Ready, Picked, turnBy, judged}
 use Rattle.passes.proofs.Six.{counts, is-left, in-symbols, in-graphs, in-productions, in-kids, follows-steps, follows-circle, follows-known, follows-full, follows-new}
 use Rattle.passes.proofs.try_one.Statement.{statement}
 use Rattle.passes.proofs.try_one.Tie as tie
@@ -25,11 +25,11 @@ module _ (c : tie.After-judge) where
   numbers : Picked (start .args .task) (start .args .task .count) (start .args .picked)
   numbers = start .pre .1
 
-  told : (v : Verdict) → c .judge .result ≡ v → judged (start .args .task) (σ .symbols) (σ .graphs) (start .args .run) (start .args .picked) ≡ v
+  told : (v : Verdict) → c .judge .result ≡ v → judged (turnBy (start .args .task) (start .args .own .now)) (σ .symbols) (σ .graphs) (start .args .run) (start .args .picked) ≡ v
   told v h = sym (c .judge .ensures) ∙ h
 
   pays : (v : Verdict) → c .judge .result ≡ v → counts v ≡ true → 1 ≤ start .args .run .left
-  pays v h i = is-left (start .args .task) (σ .symbols) (σ .graphs) (start .args .run) (start .args .picked) (ap counts (told v h) ∙ i)
+  pays v h i = is-left (start .args .task) (start .args .own .now) (σ .symbols) (σ .graphs) (start .args .run) (start .args .picked) (ap counts (told v h) ∙ i)
 
 judge-requires : tie.Need-judge-requires
 judge-requires c κs =
@@ -82,7 +82,7 @@ mul-symbols c = search needs
 slice-write-symbols : tie.Need-slice-write-symbols
 slice-write-symbols c =
     let j = c .before .before .before in
-    in-symbols (start j .args .task) (σ j) (start j .args .run) (start j .args .picked) (ready j) (numbers j) _ (told j (New _) (c .before .verdict .given .1))
+    in-symbols (start j .args .task) (start j .args .own .now) (σ j) (start j .args .run) (start j .args .picked) (ready j) (numbers j) _ (told j (New _) (c .before .verdict .given .1))
 
 mul-graphs : tie.Need-mul-graphs
 mul-graphs c = search needs
@@ -90,7 +90,7 @@ mul-graphs c = search needs
 slice-write-graphs : tie.Need-slice-write-graphs
 slice-write-graphs c =
     let j = c .before .before .before in
-    in-graphs (start j .args .task) (σ j) (start j .args .run) (start j .args .picked) (ready j) (numbers j) _ (told j (New _) (c .before .verdict .given .1))
+    in-graphs (start j .args .task) (start j .args .own .now) (σ j) (start j .args .run) (start j .args .picked) (ready j) (numbers j) _ (told j (New _) (c .before .verdict .given .1))
 
 mul-productions : tie.Need-mul-productions
 mul-productions c = search needs
@@ -98,7 +98,7 @@ mul-productions c = search needs
 slice-write-productions : tie.Need-slice-write-productions
 slice-write-productions c =
     let j = c .before .before .before in
-    in-productions (start j .args .task) (σ j) (start j .args .run) (start j .args .picked) (ready j) (numbers j) _ (told j (New _) (c .before .verdict .given .1))
+    in-productions (start j .args .task) (start j .args .own .now) (σ j) (start j .args .run) (start j .args .picked) (ready j) (numbers j) _ (told j (New _) (c .before .verdict .given .1))
 
 mul-put-row : tie.Need-mul-put-row
 mul-put-row c = search needs
@@ -106,7 +106,7 @@ mul-put-row c = search needs
 put-row-requires : tie.Need-put-row-requires
 put-row-requires c κs =
     let j = c .before .before .before .before in
-    in-kids (start j .args .task) (σ j) (start j .args .run) (start j .args .picked) (ready j) (numbers j) _ (told j (New _) (c .before .before .verdict .given .1))
+    in-kids (start j .args .task) (start j .args .own .now) (σ j) (start j .args .run) (start j .args .picked) (ready j) (numbers j) _ (told j (New _) (c .before .before .verdict .given .1))
 
 sub-going-on-2 : tie.Need-sub-going-on-2
 sub-going-on-2 c = omega (arith, pays (c .before .before .before .before .before .before .before) (New _) (c .before .before .before .before .before .verdict .given .1) refl)
@@ -126,7 +126,7 @@ same-length-2 c = search needs
 returns : tie.Need-returns
 returns c =
     let j = c .before .before .before in
-    rw (c .stopped .ensures) (follows-steps (start j .args .task) (σ j) (start j .args .run) (start j .args .picked) (ready j) (numbers j) (told j Steps (c .before .enum-told .given .1)))
+    rw (c .stopped .ensures) (follows-steps (start j .args .task) (start j .args .own .now) (σ j) (start j .args .run) (start j .args .picked) (ready j) (numbers j) (told j Steps (c .before .enum-told .given .1)))
 
 same-length-3 : tie.Need-same-length-3
 same-length-3 c = search needs
@@ -137,7 +137,7 @@ same-length-4 c = search needs
 returns-2 : tie.Need-returns-2
 returns-2 c =
     let j = c .before .before .before in
-    rw (c .stopped2 .ensures) (follows-circle (start j .args .task) (σ j) (start j .args .run) (start j .args .picked) (ready j) (numbers j) (told j Circle (c .before .enum-told2 .given .1)))
+    rw (c .stopped2 .ensures) (follows-circle (start j .args .task) (start j .args .own .now) (σ j) (start j .args .run) (start j .args .picked) (ready j) (numbers j) (told j Circle (c .before .enum-told2 .given .1)))
 
 same-length-5 : tie.Need-same-length-5
 same-length-5 c = search needs
@@ -148,7 +148,7 @@ same-length-6 c = search needs
 returns-3 : tie.Need-returns-3
 returns-3 c =
     let j = c .before .before .before in
-    rw (c .going-on .ensures) (follows-known (start j .args .task) (σ j) (start j .args .run) (start j .args .picked) (ready j) (numbers j) (told j Known (c .before .enum-told3 .given .1)))
+    rw (c .going-on .ensures) (follows-known (start j .args .task) (start j .args .own .now) (σ j) (start j .args .run) (start j .args .picked) (ready j) (numbers j) (told j Known (c .before .enum-told3 .given .1)))
 
 same-length-7 : tie.Need-same-length-7
 same-length-7 c = search needs
@@ -159,7 +159,7 @@ same-length-8 c = search needs
 returns-4 : tie.Need-returns-4
 returns-4 c =
     let j = c .before .before .before in
-    rw (c .stopped3 .ensures) (follows-full (start j .args .task) (σ j) (start j .args .run) (start j .args .picked) (ready j) (numbers j) (told j Full (c .before .enum-told4 .given .1)))
+    rw (c .stopped3 .ensures) (follows-full (start j .args .task) (start j .args .own .now) (σ j) (start j .args .run) (start j .args .picked) (ready j) (numbers j) (told j Full (c .before .enum-told4 .given .1)))
 
 same-length-9 : tie.Need-same-length-9
 same-length-9 c = search needs
@@ -176,7 +176,7 @@ same-length-12 c = search needs
 returns-5 : tie.Need-returns-5
 returns-5 c =
     let j = c .before .before .before .before .before .before .before .before in
-    rw (c .going-on2 .ensures, c .before .before .before .put-row .ensures) (follows-new (start j .args .task) (σ j) (start j .args .run) (start j .args .picked) (ready j) (numbers j) _ (told j (New _) (c .before .before .before .before .before .before .verdict .given .1)))
+    rw (c .going-on2 .ensures, c .before .before .before .put-row .ensures) (follows-new (start j .args .task) (start j .args .own .now) (σ j) (start j .args .run) (start j .args .picked) (ready j) (numbers j) _ (told j (New _) (c .before .before .before .before .before .before .verdict .given .1)))
 
 pub try-one-spec : {M : Type 1} → statement M
 try-one-spec =

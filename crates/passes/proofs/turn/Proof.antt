@@ -1,11 +1,11 @@
 -- `passes::turn` meets its contract. Assumes nothing.
-use mathlib.Core.Path.{sym, _∙_}
+use mathlib.Core.Path.{refl, sym, _∙_}
 use borrow.Author.Needs.{needs}
 use borrow.Author.Tests.{not-true}
 use native.Mathlib.Omega.{arith}
 use lib.ListN.{replicate}
 use Rattle.passes.specs.Slices.{Slices, slices}
-use Rattle.passes.specs.Follow.{Ready}
+use Rattle.passes.specs.Follow.{Ready, ownOf}
 use Rattle.passes.proofs.Combinations.{combos-none}
 use Rattle.passes.proofs.Levels.{over-none, picked-none}
 use Rattle.passes.proofs.Tables.{few-productions, task-ready, task-turn}
@@ -42,14 +42,19 @@ returns c =
     let t = c .before .before .before in
     let s = start t in
     let k = t .task-of .result in
-    task-turn (s .args .table .now) (s .pre .0) (s .args .number) (s .args .room) (s .pre .1) (σ t) (s .args .run) k (t .task-of .ensures) (replicate 7 0) _ _
-    (over-none k (σ t) (s .args .run) _
+    task-turn (s .args .table .now) (s .pre .0) (s .args .number) (s .args .room) (s .pre .1) (σ t) (s .args .run) k (t .task-of .ensures) (ownOf (s .args .table .now) (s .args .number)) refl (replicate 7 0) _ _
+    (over-none k (ownOf (s .args .table .now) (s .args .number)) (σ t) (s .args .run) _
     (combos-none k (σ t) (replicate 7 0) (omega (arith, ready t .few, ready t .slots)) (sym (c .before .all-occur .ensures) ∙ not-true _ (c .if1 .taken)))
     (ready t .roomy .stored))
 
+own-of-requires : tie.Need-own-of-requires
+own-of-requires c κs =
+    let s = c .before .before .before .before .before .before .before .before .before in
+    (s .pre .0, omega (arith, s .pre .1, few-productions (s .args .table .now) (s .pre .0)))
+
 level-requires : tie.Need-level-requires
 level-requires c κs =
-    let t = c .before .before .before .before .before .before .before in
+    let t = c .before .before .before .before .before .before .before .before .before in
     (search needs, ready t, picked-none (t .task-of .result))
 
 same-length-2 : tie.Need-same-length-2
@@ -66,9 +71,10 @@ same-length-5 c = search needs
 
 returns-2 : tie.Need-returns-2
 returns-2 c =
-    let t = c .before .before .before .before .before .before .before .before .before .before .before .before .before .before .before .before in
+    let t = c .before .before .before .before .before .before .before .before .before .before .before .before .before .before .before .before .before .before in
     let s = start t in
-    task-turn (s .args .table .now) (s .pre .0) (s .args .number) (s .args .room) (s .pre .1) (σ t) (s .args .run) (t .task-of .result) (t .task-of .ensures) (replicate 7 0) _ _
+    let own = c .before .before .before .before .before .before .before .before .before .before .before .before .before .before .own-of in
+    task-turn (s .args .table .now) (s .pre .0) (s .args .number) (s .args .room) (s .pre .1) (σ t) (s .args .run) (t .task-of .result) (t .task-of .ensures) (own .result) (own .ensures) (replicate 7 0) _ _
     (c .before .before .before .before .before .before .before .before .level .ensures)
 
 pub turn-spec : {M : Type 1} → statement M
@@ -79,6 +85,7 @@ turn-spec =
     all-occur-requires
     same-length
     returns
+    own-of-requires
     level-requires
     same-length-2
     same-length-3
