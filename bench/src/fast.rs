@@ -1,5 +1,6 @@
 //! The passes of the page in Rust, written for speed: rows of bits, and only the nodes that are there. It takes a table that is not
-//! refused, and its entries stand in slices, one for each field.
+//! refused, and its entries stand in slices, one for each field. `LEAVE_OUT` says whether the steps of a closure that change nothing
+//! are left out, as the proved library does.
 
 pub const MOST_RIGHT: usize = 7;
 
@@ -46,9 +47,9 @@ struct Production<'a> {
     edges: &'a [u8],
 }
 
-pub fn run(table: &[u8], limit: u32, entries: &mut Entries) -> Report {
+pub fn run<const LEAVE_OUT: bool>(table: &[u8], limit: u32, entries: &mut Entries) -> Report {
     let productions = productions(table);
-    let mut run = Run {
+    let mut run = Run::<LEAVE_OUT> {
         limit,
         entries,
         stored: 0,
@@ -104,7 +105,7 @@ fn productions(table: &[u8]) -> Vec<Production<'_>> {
         .collect()
 }
 
-struct Run<'a> {
+struct Run<'a, const LEAVE_OUT: bool> {
     limit: u32,
     entries: &'a mut Entries,
     stored: usize,
@@ -112,7 +113,7 @@ struct Run<'a> {
     root: [u16; MOST_RIGHT],
 }
 
-impl Run<'_> {
+impl<const LEAVE_OUT: bool> Run<'_, LEAVE_OUT> {
     fn turn(&mut self, production: &Production) -> Option<Answer> {
         let stored = self.stored;
         let has = |symbol: &u16| self.entries.symbols[..stored].contains(symbol);
@@ -157,7 +158,7 @@ impl Run<'_> {
         }
         let mut rows = *rows;
         let nodes = &mut rows[..8 * (production.n + 1)];
-        close(nodes);
+        close::<LEAVE_OUT>(nodes);
         self.closures += 1;
         let mut kids = *kids;
         kids[production.n..].fill(0);
@@ -188,10 +189,14 @@ fn place(rows: &mut [u64; 64], graph: u64, occurrence: usize) {
     }
 }
 
-/// Warshall's steps where the rows stand.
-fn close(rows: &mut [u64]) {
+/// Warshall's steps where the rows stand. A step through a node that no edge leaves, or to which none leads, changes nothing.
+fn close<const LEAVE_OUT: bool>(rows: &mut [u64]) {
+    let targets = rows.iter().fold(0, |all, row| all | row);
     for k in 0..rows.len() {
         let via = rows[k];
+        if LEAVE_OUT && (via == 0 || targets >> k & 1 == 0) {
+            continue;
+        }
         for row in rows.iter_mut() {
             // All ones where the row has node k, so that no branch is taken.
             *row |= via & (*row >> k & 1).wrapping_neg();

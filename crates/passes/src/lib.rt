@@ -77,21 +77,19 @@ fn wide(x: u16) -> usize
     x as usize
 }
 
-// The rows of the compound graph: the production's own, and each picked entry's pairs at its occurrence.
-fn compound(graphs: &[u64], own: &[u64; 64], task: Task, picked: [u16; 7]) -> [u64; 64]
+// The rows of the compound graph: to the production's own, each picked entry's pairs at its occurrence.
+fn compound(graphs: &[u64], rows: &mut [u64; 64], task: Task, picked: [u16; 7])
     requires { ⌜ PickedIn (now graphs) task picked ⌝ }
-    ensures { λ r. ⌜ r ≡ placedFrom 8 1 (graphsOf (now (graphs .entry)) task picked) (now (own .entry)) ⌝ }
+    ensures { λ _. ⌜ now (rows .exit) ≡ placedFrom 8 1 (graphsOf (now (graphs .entry)) task picked) (now (rows .entry)) ⌝ }
 {
     let count = task.count;
-    let mut rows = *own;
     let mut k = 0;
     while k < count {
         let kid = wide(picked[k]);
         let pairs = graphs[kid];
         k += 1;
-        graph::place(&mut rows, pairs, k);
+        graph::place(rows, pairs, k);
     }
-    rows
 }
 
 // One closure.
@@ -101,7 +99,8 @@ fn closure(graphs: &[u64], own: &[u64; 64], task: Task, picked: [u16; 7]) -> Clo
         × (r .graph ≡ systemBy (turnBy task (now (own .entry))) .graph (task .number) (graphsOf (now (graphs .entry)) task picked)) ⌝ }
 {
     let occurrences = task.count + 1;
-    let mut rows = compound(graphs, own, task, picked);
+    let mut rows = *own;
+    compound(graphs, &mut rows, task, picked);
     graph::close(&mut rows, occurrences);
     Closed {
         circle: graph::has_circle(&rows, occurrences),

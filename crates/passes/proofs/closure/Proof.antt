@@ -51,13 +51,13 @@ root-graph-requires c κs = search needs
 returns : tie.Need-returns
 returns c =
     let table = c .before .before .before .before .before .before .compound in
-    let s = c .before .before .before .before .before .before .before .before .before in
+    let s = c .before .before .before .before .before .before .before .before .before .before .before in
     let closed = c .before .before .before .before .close in
     let few : s .args .task .count ≤ length (s .args .picked) = omega (arith, s .pre .0) in (
       c .before .before .has-circle .ensures
-          ∙ closed-circle (s .args .task) (s .args .own .now) (s .args .graphs .now) (s .args .picked) few (table .result) (closed .last .0) (table .ensures) (closed .ensures),
+          ∙ closed-circle (s .args .task) (s .args .own .now) (s .args .graphs .now) (s .args .picked) few (table .last .1 .0) (closed .last .0) (table .ensures) (closed .ensures),
       c .root-graph .ensures
-          ∙ closed-root (s .args .task) (s .args .own .now) (s .args .graphs .now) (s .args .picked) few (table .result) (closed .last .0) (table .ensures) (closed .ensures),
+          ∙ closed-root (s .args .task) (s .args .own .now) (s .args .graphs .now) (s .args .picked) few (table .last .1 .0) (closed .last .0) (table .ensures) (closed .ensures),
     )
 
 pub closure-spec : {M : Type 1} → statement M

@@ -36,11 +36,11 @@ unfolding placedFrom
 none-left gs rows k h = rw (drop-of-length-le gs {i = k} h)
 
 abbrev Inv-loop : tie.InvT-loop
-Inv-loop graphs own picked count rows₀ k₀ rows k =
+Inv-loop graphs rows₀ picked count k₀ rows k =
     (k ≤ count) × (placedFrom 8 (suc k) (drop k (picks graphs count picked)) rows ≡ placedFrom 8 1 (picks graphs count picked) rows₀)
 
 abbrev μ-loop : tie.MeasureT-loop
-μ-loop graphs own picked count rows₀ k₀ rows k = count - k
+μ-loop graphs rows₀ picked count k₀ rows k = count - k
 
 loop-holds : tie.Need-loop-holds Inv-loop μ-loop
 loop-holds c = (search needs, refl)
@@ -55,11 +55,11 @@ wide-requires : tie.Need-wide-requires Inv-loop μ-loop
 wide-requires c κs = search needs
 
 mul-pairs : tie.Need-mul-pairs Inv-loop μ-loop
-mul-pairs c = omega (arith, c .wide .ensures, c .before .before .before .before .before .pre .1 (c .before .before .loop .k) (c .before .loop-test .taken))
+mul-pairs c = omega (arith, c .wide .ensures, c .before .before .before .before .pre .1 (c .before .before .loop .k) (c .before .loop-test .taken))
 
 shared-slice-read-pairs : tie.Need-shared-slice-read-pairs Inv-loop μ-loop
 shared-slice-read-pairs c =
-    omega (arith, c .before .wide .ensures, c .before .before .before .before .before .before .pre .1 (c .before .before .before .loop .k) (c .before .before .loop-test .taken))
+    omega (arith, c .before .wide .ensures, c .before .before .before .before .before .pre .1 (c .before .before .before .loop .k) (c .before .before .loop-test .taken))
 
 add-k : tie.Need-add-k Inv-loop μ-loop
 add-k c = search needs
@@ -72,7 +72,7 @@ loop-less c = search needs
 
 loop-again : tie.Need-loop-again Inv-loop μ-loop
 loop-again c =
-    let s = c .before .before .before .before .before .before .before .before in
+    let s = c .before .before .before .before .before .before .before in
     let l = c .before .before .before .before .before .loop in
     let below = c .before .before .before .before .loop-test .taken in
     let few : s .args .task .count ≤ length (s .args .t4) = omega (arith, s .pre .0) in
@@ -89,7 +89,7 @@ loop-again c =
 
 returns : tie.Need-returns Inv-loop μ-loop
 returns c =
-    let s = c .before .before .before .before in
+    let s = c .before .before .before in
     let l = c .before .loop in
     let few : s .args .task .count ≤ length (s .args .t4) = omega (arith, s .pre .0) in
     none-left (picks (s .args .graphs .now) (s .args .task .count) (s .args .t4)) (l .rows) (l .k)
