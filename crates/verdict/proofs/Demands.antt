@@ -30,7 +30,7 @@ use Rattle.rules.specs.Test.{systemOf, byNumber, test}
 use Rattle.orders.specs.Answers as runs
 use Rattle.orders.specs.Stored.{In}
 use Rattle.orders.proofs.Answers as runs-shown
-use Rattle.verdict.specs.Demands.{back, answer, TreeOf, HasCircle, told, shownTree, TreePair, RefusedExactly, CircularShown, NoncircularNone, StepsExactly, RoomExactly, MorePairs, RoomCounts, NeverStill, StandsStillLeft}
+use Rattle.verdict.specs.Demands.{back, said, answer, NoRuleBroken, told, shownTree, TreePair, RefusedExactlyAlways, CircularShownAlways, NoncircularNoneAlways, StepsExactly, StepsExactlyAlways, RoomExactly, RoomExactlyAlways, RoomCounts, RoomCountsAlways, NeverStillAlways, StandsStillLeftAlways, PassesFollowed}
 use Rattle.verdict.proofs.Obeys.{obeys}
 use Rattle.verdict.proofs.Trees.{root-complete, root-circle, saturated}
 use Rattle.verdict.proofs.Room.{stored-once, stored-pairs, pairs-stored, no-more, one-more}
@@ -91,6 +91,13 @@ module _ (bs : List ℕ) where
       go zero e = inl e
       go (suc k) e = inr (suc k, rules-shown.refused-exactly 8 bs k .0 e)
 
+  when-unbroken : NoRuleBroken bs → refusal 8 bs ≡ 0
+  when-unbroken n = go either
+    where
+      go : (refusal 8 bs ≡ 0) ⊎ ((k : ℕ) × Breaks 8 bs k) → refusal 8 bs ≡ 0
+      go (inl e) = e
+      go (inr (k, b)) = absurd (n k b)
+
   -- an answer other than a refusal is that of the passes
   not-refused : (limit room : ℕ) (a : Answer) → answer bs limit room ≡ a → ¬ (case a ≡ 2) → refusal 8 bs ≡ 0
   not-refused limit room a h n = go either
@@ -99,27 +106,6 @@ module _ (bs : List ℕ) where
       go (inl e) = e
       go (inr (k, b)) = absurd (n (ap case (sym h) ∙ ap (λ (o : Outcome). case (o .report .answer)) (refused k b limit room)))
 
-  -- ---- demand 1
-  pub refused-exactly : (limit room k : ℕ) → RefusedExactly bs limit room k
-  refused-exactly limit room k = record {
-    exactly = (λ h. go h either, λ b. ap (λ (o : Outcome). o .report .answer) (refused k b limit room));
-    nothing = λ b. refused k b limit room;
-  }
-    where
-      sound-answer : refusal 8 bs ≡ 0 → runs.Says (systemOf 8 (grammarOf bs)) (In (byNumber (grammarOf bs))) limit room (ran limit room) (ran limit room .report .answer)
-      sound-answer e = runs-shown.outcome-sound (systemOf 8 (grammarOf bs)) (byNumber (grammarOf bs)) limit room .says
-
-      go : answer bs limit room ≡ Refused k → (refusal 8 bs ≡ 0) ⊎ ((j : ℕ) × Breaks 8 bs j) → Breaks 8 bs k
-      go h (inl e) =
-          absurd
-          (subst (runs.Says (systemOf 8 (grammarOf bs)) (In (byNumber (grammarOf bs))) limit room (ran limit room))
-          (ap (λ (o : Outcome). o .report .answer) (sym (taken e limit room)) ∙ h) (sound-answer e))
-      go h (inr (j, b)) =
-          let q : Refused j ≡ Refused k = ap (λ (o : Outcome). o .report .answer) (sym (refused j b limit room)) ∙ h in
-          let n : j ≡ k = cc in
-          subst (Breaks 8 bs) n b
-
-  -- ---- demand 2
   module _ (good : refusal 8 bs ≡ 0) where
     sound : (limit room : ℕ) → runs.Sound (systemOf 8 (grammarOf bs)) (In (byNumber (grammarOf bs))) limit room (back bs limit room)
     sound limit room =
@@ -144,150 +130,180 @@ module _ (bs : List ℕ) where
           let q = refused k b limit room in
           ap (λ (o : Outcome). o .report .entries) q ∙ sym (ap (λ (o : Outcome). length (o .entries)) q)
 
-  pub circular-shown : (limit room p : ℕ) → answer bs limit room ≡ Circular p → CircularShown bs limit room p
-  circular-shown limit room p h =
-      let good = not-refused limit room (Circular p) h (λ e. omega arith) in
-      let s = sound good limit room in
-      let root = subst (runs.Says (systemOf 8 (grammarOf bs)) (In (byNumber (grammarOf bs))) limit room (back bs limit room)) h (s .says) in
-      record {
-        complete =
-            root-complete 8 (grammarOf bs) (obeys 8 bs good .0) (obeys 8 bs good .1) (back bs limit room .entries) (s .made) p
-            (back bs limit room .report .root) root;
-        circle =
-            root-circle 8 (grammarOf bs) (obeys 8 bs good .0) (obeys 8 bs good .1) (back bs limit room .entries) (s .made) p
-            (back bs limit room .report .root) root;
-      }
+-- ---- demand 1
+pub refused-exactly : RefusedExactlyAlways back
+refused-exactly bs limit room k = record {
+  exactly = (λ h. go h (either bs), λ b. ap said (refused bs k b limit room));
+  nothing = λ b. refused bs k b limit room;
+}
+  where
+    sound-answer : refusal 8 bs ≡ 0
+        → runs.Says (systemOf 8 (grammarOf bs)) (In (byNumber (grammarOf bs))) limit room (ran bs limit room) (said (ran bs limit room))
+    sound-answer e = runs-shown.outcome-sound (systemOf 8 (grammarOf bs)) (byNumber (grammarOf bs)) limit room .says
 
-  -- after noncircular the store has every tree
-  full : (limit room : ℕ) → answer bs limit room ≡ Noncircular
-      → record-of-trees.Saturated (grammarOf bs) (NumberHolds 8) (InTable (grammarOf bs)) (told (grammarOf bs) (back bs limit room .entries))
-      (length (back bs limit room .entries))
-  full limit room h =
-      let good = not-refused limit room Noncircular h (λ e. omega arith) in
-      let s = sound good limit room in
-      saturated 8 (grammarOf bs) (obeys 8 bs good .0) (obeys 8 bs good .1) (back bs limit room .entries)
-      (subst (runs.Says (systemOf 8 (grammarOf bs)) (In (byNumber (grammarOf bs))) limit room (back bs limit room)) h (s .says) .0)
+    go : answer bs limit room ≡ Refused k → (refusal 8 bs ≡ 0) ⊎ ((j : ℕ) × Breaks 8 bs j) → Breaks 8 bs k
+    go h (inl e) =
+        absurd
+        (subst (runs.Says (systemOf 8 (grammarOf bs)) (In (byNumber (grammarOf bs))) limit room (ran bs limit room))
+        (ap said (sym (taken bs e limit room)) ∙ h) (sound-answer e))
+    go h (inr (j, b)) =
+        let q : Refused j ≡ Refused k = ap said (sym (refused bs j b limit room)) ∙ h in
+        let n : j ≡ k = cc in
+        subst (Breaks 8 bs) n b
 
-  pub noncircular-none : (limit room : ℕ) → answer bs limit room ≡ Noncircular → NoncircularNone bs
-  noncircular-none limit room h t w c =
-      none-circular (grammarOf bs) (NumberHolds 8) (InTable (grammarOf bs)) (told (grammarOf bs) (back bs limit room .entries))
-      (length (back bs limit room .entries)) (full limit room h) (t, w, c)
+-- ---- demand 2
+pub circular-shown : CircularShownAlways back
+circular-shown bs limit room p h =
+    let good = not-refused bs limit room (Circular p) h (λ e. omega arith) in
+    let s = sound bs good limit room in
+    let root = subst (runs.Says (systemOf 8 (grammarOf bs)) (In (byNumber (grammarOf bs))) limit room (back bs limit room)) h (s .says) in
+    record {
+      complete =
+          root-complete 8 (grammarOf bs) (obeys 8 bs good .0) (obeys 8 bs good .1) (back bs limit room .entries) (s .made) p
+          (back bs limit room .report .root) root;
+      circle =
+          root-circle 8 (grammarOf bs) (obeys 8 bs good .0) (obeys 8 bs good .1) (back bs limit room .entries) (s .made) p
+          (back bs limit room .report .root) root;
+    }
 
-  pub steps-exactly : (L M room : ℕ) → L < M → StepsExactly bs L M room
-  steps-exactly L M room lt = go either
-    where
-      go : (refusal 8 bs ≡ 0) ⊎ ((k : ℕ) × Breaks 8 bs k) → StepsExactly bs L M room
-      go (inl e) =
-          let x = runs-shown.steps-exactly (systemOf 8 (grammarOf bs)) (byNumber (grammarOf bs)) L M room lt in
-          let y = subst₂ (runs.StepsCompared L) (sym (taken e L room)) (sym (taken e M room)) x in
-          record { exactly = y .exactly; else = y .else }
-      go (inr (k, b)) =
-          let l = refused k b L room in
-          let m = refused k b M room in
-          record {
-            exactly = (
-              λ h. absurd (let z : _≡_ {A = ℕ} 2 3 = ap (λ (o : Outcome). case (o .report .answer)) (sym l) ∙ ap case h in omega arith),
-              λ h. absurd (omega (arith, ap (λ (o : Outcome). o .report .closures) m)),
-            );
-            else = λ _. m ∙ sym l;
-          }
+-- after noncircular the store has every tree
+full : (bs : List ℕ) (limit room : ℕ) → answer bs limit room ≡ Noncircular
+    → record-of-trees.Saturated (grammarOf bs) (NumberHolds 8) (InTable (grammarOf bs)) (told (grammarOf bs) (back bs limit room .entries))
+    (length (back bs limit room .entries))
+full bs limit room h =
+    let good = not-refused bs limit room Noncircular h (λ e. omega arith) in
+    let s = sound bs good limit room in
+    saturated 8 (grammarOf bs) (obeys 8 bs good .0) (obeys 8 bs good .1) (back bs limit room .entries)
+    (subst (runs.Says (systemOf 8 (grammarOf bs)) (In (byNumber (grammarOf bs))) limit room (back bs limit room)) h (s .says) .0)
 
-  pub room-exactly : (limit l R S : ℕ) → R < S → back bs limit R .report .closures ≤ l → l ≤ limit → RoomExactly bs limit l R S
-  room-exactly limit l R S lt low high = go either
-    where
-      go : (refusal 8 bs ≡ 0) ⊎ ((k : ℕ) × Breaks 8 bs k) → RoomExactly bs limit l R S
-      go (inl e) =
-          let W = systemOf 8 (grammarOf bs) in
-          let c = ap (λ (o : Outcome). o .report .closures) (taken e limit R) in
-          let x = runs-shown.room-exactly W (byNumber (grammarOf bs)) limit R S l lt (omega arith) high in
-          let y = subst₂ (runs.RoomCompared R) (sym (taken e limit R)) (sym (taken e l S)) x in
-          let s = runs-shown.outcome-sound W (byNumber (grammarOf bs)) limit R in
-          let u = runs-shown.room-exactly W (byNumber (grammarOf bs)) limit R S limit lt (s .closures) (omega arith) in
-          let v = subst₂ (runs.RoomCompared R) (sym (taken e limit R)) (sym (taken e limit S)) u in
-          record { exactly = y .exactly; else = v .else }
-      go (inr (k, b)) =
-          let m = refused k b limit R in
-          let n = refused k b l S in
-          record {
-            exactly = (
-              λ h. absurd (let z : _≡_ {A = ℕ} 2 4 = ap (λ (o : Outcome). case (o .report .answer)) (sym m) ∙ ap case h in omega arith),
-              λ h. absurd (omega (arith, ap (λ (o : Outcome). length (o .entries)) n)),
-            );
-            else = λ _. refused k b limit S ∙ sym m;
-          }
+pub noncircular-none : NoncircularNoneAlways back
+noncircular-none bs limit room h t w c =
+    none-circular (grammarOf bs) (NumberHolds 8) (InTable (grammarOf bs)) (told (grammarOf bs) (back bs limit room .entries))
+    (length (back bs limit room .entries)) (full bs limit room h) (t, w, c)
 
-  -- 01's claim on room
-  pub room-counts : (limit R : ℕ) → refusal 8 bs ≡ 0 → NoncircularNone bs → ¬ (answer bs limit R ≡ OutOfSteps) → RoomCounts bs limit R
-  room-counts limit R good calm enough = go (answer bs limit R) refl (sound good limit R .says)
-    where
-      pair : (q : ℕ × ℕ) → (q .1 < 2 ^ 64) × OfTree (grammarOf bs) (NumberHolds 8) (InTable (grammarOf bs)) q → TreePair bs q
-      pair q h = record { number = h .0; of-tree = h .1 }
+pub steps-exactly : StepsExactlyAlways back
+steps-exactly bs L M room lt = go (either bs)
+  where
+    go : (refusal 8 bs ≡ 0) ⊎ ((k : ℕ) × Breaks 8 bs k) → StepsExactly bs L M room (back bs L room)
+    go (inl e) =
+        let x = runs-shown.steps-exactly (systemOf 8 (grammarOf bs)) (byNumber (grammarOf bs)) L M room lt in
+        let y = subst₂ (runs.StepsCompared L) (sym (taken bs e L room)) (sym (taken bs e M room)) x in
+        record { exactly = y .exactly; else = y .else }
+    go (inr (k, b)) =
+        let l = refused bs k b L room in
+        let m = refused bs k b M room in
+        record {
+          exactly = (
+            λ h. absurd (let z : _≡_ {A = ℕ} 2 3 = ap (λ (o : Outcome). case (said o)) (sym l) ∙ ap case h in omega arith),
+            λ h. absurd (omega (arith, ap (λ (o : Outcome). o .report .closures) m)),
+          );
+          else = λ _. m ∙ sym l;
+        }
 
-      go : (a : Answer) → answer bs limit R ≡ a
-          → runs.Says (systemOf 8 (grammarOf bs)) (In (byNumber (grammarOf bs))) limit R (back bs limit R) a → RoomCounts bs limit R
-      go Noncircular h says =
-          let s = sound good limit R in
-          let g = grammarOf bs in
-          let es = back bs limit R .entries in
-          let full = saturated 8 g (obeys 8 bs good .0) (obeys 8 bs good .1) es (says .0) in
-          let o = obeys 8 bs good in
-          record {
-            exactly = (
-              λ k. absurd (let z : _≡_ {A = ℕ} 0 4 = ap case (sym h ∙ k) in omega arith),
-              λ m.
-                  absurd
-                  (omega (
-                    arith,
-                    m .2,
-                    s .entries,
-                    no-more 8 g (o .0) (o .1) es (s .made) (s .different) full (m .0) (m .1) (λ q k. (m .3 q k .number, m .3 q k .of-tree)),
-                  )),
-            );
-            once = stored-once 8 g (o .0) (o .1) es (s .made) (s .different);
-            those = λ _ q. (
-              λ m. pair q (stored-pairs 8 g (o .0) (o .1) es (s .made) (s .different) q m),
-              λ m. pairs-stored 8 g (o .0) (o .1) es (s .made) (s .different) full q (m .number, m .of-tree),
-            );
-          }
-      go (Circular p) h says =
-          let c = circular-shown limit R p h in
-          absurd (calm (shownTree bs (back bs limit R) p) (c .complete) (c .circle))
-      go (Refused k) h says = absurd says
-      go OutOfSteps h says = absurd (enough h)
-      go OutOfRoom h says =
-          let s = sound good limit R in
-          let g = grammarOf bs in
-          let es = back bs limit R .entries in
-          let o = obeys 8 bs good in
-          let x = says .1 in
-          let l = one-more 8 g (o .0) (o .1) es (s .made) (s .different) (x .extra) (x .made) (x .new) in
-          record {
-            exactly = (λ _. (l .0, l .1, omega (arith, l .2, says .0), λ q k. pair q (l .3 q k)), λ _. h);
-            once = stored-once 8 g (o .0) (o .1) es (s .made) (s .different);
-            those = λ n. absurd (n h);
-          }
+pub room-exactly : RoomExactlyAlways back
+room-exactly bs limit l R S lt low high = go (either bs)
+  where
+    go : (refusal 8 bs ≡ 0) ⊎ ((k : ℕ) × Breaks 8 bs k) → RoomExactly bs limit l R S (back bs limit R)
+    go (inl e) =
+        let W = systemOf 8 (grammarOf bs) in
+        let c = ap (λ (o : Outcome). o .report .closures) (taken bs e limit R) in
+        let x = runs-shown.room-exactly W (byNumber (grammarOf bs)) limit R S l lt (omega arith) high in
+        let y = subst₂ (runs.RoomCompared R) (sym (taken bs e limit R)) (sym (taken bs e l S)) x in
+        let s = runs-shown.outcome-sound W (byNumber (grammarOf bs)) limit R in
+        let u = runs-shown.room-exactly W (byNumber (grammarOf bs)) limit R S limit lt (s .closures) (omega arith) in
+        let v = subst₂ (runs.RoomCompared R) (sym (taken bs e limit R)) (sym (taken bs e limit S)) u in
+        record { exactly = y .exactly; else = v .else }
+    go (inr (k, b)) =
+        let m = refused bs k b limit R in
+        let n = refused bs k b l S in
+        record {
+          exactly = (
+            λ h. absurd (let z : _≡_ {A = ℕ} 2 4 = ap (λ (o : Outcome). case (said o)) (sym m) ∙ ap case h in omega arith),
+            λ h. absurd (omega (arith, ap (λ (o : Outcome). length (o .entries)) n)),
+          );
+          else = λ _. refused bs k b limit S ∙ sym m;
+        }
 
-  -- ---- demand 3
-  pub never-still : (limit room : ℕ) → answer bs limit room ≡ Noncircular → (t : Tree) → TreeOf bs t → NeverStill bs t
-  never-still limit room h t w =
-      let good = not-refused limit room Noncircular h (λ e. omega arith) in
-      let none = noncircular-none limit room h t w in
-      record {
-        goes-on = evaluators.never-still (grammarOf bs) (obeys 8 bs good .0) (InTable (grammarOf bs)) t w none;
-        all-computed = λ {n} {d} r s. evaluators.all-computed (grammarOf bs) (obeys 8 bs good .0) (InTable (grammarOf bs)) t w none r s .0;
-        ends = λ {n} {d} r. omega (arith, evaluators.takings (grammarOf bs) t r);
-      }
+pub room-counts : RoomCountsAlways back
+room-counts bs limit R unbroken calm enough = go (answer bs limit R) refl (s .says)
+  where
+    good : refusal 8 bs ≡ 0
+    good = when-unbroken bs unbroken
 
-  pub stands-still : (limit room p : ℕ) → answer bs limit room ≡ Circular p → StandsStillLeft bs (shownTree bs (back bs limit room) p)
-  stands-still limit room p h =
-      let good = not-refused limit room (Circular p) h (λ e. omega arith) in
-      let c = circular-shown limit room p h in
-      let t = shownTree bs (back bs limit room) p in
-      record {
-        left-over = λ {n} {d} r.
-            let x = c .circle in
-            let y = evaluators.left-over (grammarOf bs) (obeys 8 bs good .0) (InTable (grammarOf bs)) t (c .complete) r (x .0) (x .1) in
-            (x .0, y .0, y .1);
-        stands = evaluators.stood (grammarOf bs) t;
-        ends = λ {n} {d} r. evaluators.run-ends (grammarOf bs) t r;
-      }
+    s : runs.Sound (systemOf 8 (grammarOf bs)) (In (byNumber (grammarOf bs))) limit R (back bs limit R)
+    s = sound bs good limit R
+
+    pair : (q : ℕ × ℕ) → (q .1 < 2 ^ 64) × OfTree (grammarOf bs) (NumberHolds 8) (InTable (grammarOf bs)) q → TreePair bs q
+    pair q h = record { number = h .0; of-tree = h .1 }
+
+    go : (a : Answer) → answer bs limit R ≡ a
+        → runs.Says (systemOf 8 (grammarOf bs)) (In (byNumber (grammarOf bs))) limit R (back bs limit R) a
+        → RoomCounts bs R (back bs limit R)
+    go Noncircular h says =
+        let g = grammarOf bs in
+        let es = back bs limit R .entries in
+        let o = obeys 8 bs good in
+        let full = saturated 8 g (o .0) (o .1) es (says .0) in
+        record {
+          exactly = (
+            λ k. absurd (let z : _≡_ {A = ℕ} 0 4 = ap case (sym h ∙ k) in omega arith),
+            λ m.
+                absurd
+                (omega (
+                  arith,
+                  m .2,
+                  s .entries,
+                  no-more 8 g (o .0) (o .1) es (s .made) (s .different) full (m .0) (m .1) (λ q k. (m .3 q k .number, m .3 q k .of-tree)),
+                )),
+          );
+          once = stored-once 8 g (o .0) (o .1) es (s .made) (s .different);
+          those = λ _ q. (
+            λ m. pair q (stored-pairs 8 g (o .0) (o .1) es (s .made) (s .different) q m),
+            λ m. pairs-stored 8 g (o .0) (o .1) es (s .made) (s .different) full q (m .number, m .of-tree),
+          );
+        }
+    go (Circular p) h says =
+        let c = circular-shown bs limit R p h in
+        absurd (calm (shownTree bs (back bs limit R) p) (c .complete) (c .circle))
+    go (Refused k) h says = absurd says
+    go OutOfSteps h says = absurd (enough h)
+    go OutOfRoom h says =
+        let g = grammarOf bs in
+        let es = back bs limit R .entries in
+        let o = obeys 8 bs good in
+        let x = says .1 in
+        let l = one-more 8 g (o .0) (o .1) es (s .made) (s .different) (x .extra) (x .made) (x .new) in
+        record {
+          exactly = (λ _. (l .0, l .1, omega (arith, l .2, says .0), λ q k. pair q (l .3 q k)), λ _. h);
+          once = stored-once 8 g (o .0) (o .1) es (s .made) (s .different);
+          those = λ n. absurd (n h);
+        }
+
+-- ---- demand 3
+pub never-still : NeverStillAlways back
+never-still bs limit room h t w =
+    let good = not-refused bs limit room Noncircular h (λ e. omega arith) in
+    let none = noncircular-none bs limit room h t w in
+    record {
+      goes-on = evaluators.never-still (grammarOf bs) (obeys 8 bs good .0) (InTable (grammarOf bs)) t w none;
+      all-computed = λ {n} {d} r s. evaluators.all-computed (grammarOf bs) (obeys 8 bs good .0) (InTable (grammarOf bs)) t w none r s .0;
+      ends = λ {n} {d} r. omega (arith, evaluators.takings (grammarOf bs) t r);
+    }
+
+pub stands-still : StandsStillLeftAlways back
+stands-still bs limit room p h =
+    let good = not-refused bs limit room (Circular p) h (λ e. omega arith) in
+    let c = circular-shown bs limit room p h in
+    let t = shownTree bs (back bs limit room) p in
+    record {
+      left-over = λ {n} {d} r.
+          let x = c .circle in
+          let y = evaluators.left-over (grammarOf bs) (obeys 8 bs good .0) (InTable (grammarOf bs)) t (c .complete) r (x .0) (x .1) in
+          (x .0, y .0, y .1);
+      stands = evaluators.stood (grammarOf bs) t;
+      ends = λ {n} {d} r. evaluators.run-ends (grammarOf bs) t r;
+    }
+
+-- ---- the rules themselves
+pub passes-followed : PassesFollowed back
+passes-followed bs limit room = refl

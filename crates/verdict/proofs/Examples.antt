@@ -6,14 +6,19 @@ use native.Mathlib.Omega.{arith}
 use lib.ListN.{length, take, set}
 use Rattle.grammar.specs.Table.{grammarOf}
 use Rattle.grammar.specs.Rules.{Breaks}
-use Rattle.grammar.specs.Refusal.{refusal}
 use Rattle.trees.specs.Tree.{Tree, node, nil, cons}
 use Rattle.rules.specs.declared.Answer.{Answer}
 use Rattle.rules.specs.declared.Answer.the-variants.{Noncircular, Circular, Refused, OutOfSteps, OutOfRoom}
 use Rattle.rules.specs.Test.{opened}
 use Rattle.rules.specs.Small.{tableA, tableB, tableR}
-use Rattle.verdict.specs.Demands.{back, answer, TreeOf, HasCircle, shownTree, NoncircularNone, RoomCounts, MorePairs, NeverStill, StandsStillLeft}
+use Rattle.verdict.specs.Demands.{back, answer, NoRuleBroken, TreeOf, HasCircle, shownTree, NoncircularNone, MorePairs, NeverStill, StandsStillLeft}
 use Rattle.verdict.proofs.Demands.{refused-exactly, circular-shown, noncircular-none, steps-exactly, room-exactly, room-counts, never-still, stands-still}
+
+-- a table that gets a verdict breaks no rule
+when-noncircular : (bs : List ℕ) (limit room : ℕ) → answer bs limit room ≡ Noncircular → NoRuleBroken bs
+when-noncircular bs limit room h k b =
+    let r = refused-exactly bs limit room k .exactly .1 b in
+    let z : _≡_ {A = ℕ} 0 1 = cc in omega arith
 
 -- ---- demand 1: of A 23 bytes are refused by 1, and A itself by no number
 short-A : answer (take 23 tableA) 10 3 ≡ Refused 1
@@ -23,14 +28,14 @@ short-A = refl
 header-A : Breaks 8 (take 23 tableA) 1
 header-A = refused-exactly (take 23 tableA) 10 3 1 .exactly .0 short-A
 
-taken-A : refusal 8 tableA ≡ 0
-unfolding opened tableA
-taken-A = refl
-
--- ---- demand 2 at A
 noncircular-A : answer tableA 10 3 ≡ Noncircular
 unfolding opened tableA
 noncircular-A = refl
+
+unbroken-A : NoRuleBroken tableA
+unbroken-A = when-noncircular tableA 10 3 noncircular-A
+
+-- ---- demand 2 at A
 
 none-A : NoncircularNone tableA
 none-A = noncircular-none tableA 10 3 noncircular-A
@@ -58,11 +63,11 @@ room-A =
 
 more-than-two : MorePairs tableA 2
 more-than-two =
-    room-counts tableA 10 2 taken-A none-A (λ e. let z : _≡_ {A = ℕ} 0 1 = cc room-A in omega arith) .exactly .0 room-A
+    room-counts tableA 10 2 unbroken-A none-A (λ e. let z : _≡_ {A = ℕ} 0 1 = cc room-A in omega arith) .exactly .0 room-A
 
 not-three : ¬ MorePairs tableA 3
 not-three m =
-    let c = room-counts tableA 10 3 taken-A none-A (λ e. let z : _≡_ {A = ℕ} 0 1 = cc noncircular-A in omega arith) in
+    let c = room-counts tableA 10 3 unbroken-A none-A (λ e. let z : _≡_ {A = ℕ} 0 1 = cc noncircular-A in omega arith) in
     let k = c .exactly .1 m in
     let z : _≡_ {A = ℕ} 0 1 = cc noncircular-A in omega arith
 
@@ -144,13 +149,12 @@ room-R : answer tableR 5 1 ≡ OutOfRoom
 room-R =
     room-exactly tableR 5 5 1 2 (omega arith) (omega (arith, closures-room-R)) (omega arith) .exactly .1 (omega (arith, entries-R))
 
-taken-R : refusal 8 tableR ≡ 0
-unfolding opened tableR
-taken-R = refl
+unbroken-R : NoRuleBroken tableR
+unbroken-R = when-noncircular tableR 5 2 noncircular-R
 
 more-than-one : MorePairs tableR 1
 more-than-one =
-    room-counts tableR 5 1 taken-R none-R (λ e. let z : _≡_ {A = ℕ} 0 1 = cc room-R in omega arith) .exactly .0 room-R
+    room-counts tableR 5 1 unbroken-R none-R (λ e. let z : _≡_ {A = ℕ} 0 1 = cc room-R in omega arith) .exactly .0 room-R
 
 tree-R : TreeOf tableR (node 1 (cons (node 0 nil) nil))
 unfolding opened tableR

@@ -1,5 +1,6 @@
--- What a user must be able to say, each demand a statement: from the bytes of a table, a closure limit and a room to trees and evaluators.
--- Assumes nothing.
+-- What a user must be able to say, from the bytes of a table, a closure limit and a room to trees and evaluators. Each demand is a closed
+-- statement about a version of the test, its hypotheses included (`..Always`), over a record of what is asked of one outcome. What an outcome
+-- is compared with is what the rules give. Assumes nothing.
 use mathlib.Core.Bool.{true, false}
 use mathlib.Core.List.{List, List·Memᴰ}
 use mathlib.Core.Logic.{_↔_}
@@ -24,12 +25,22 @@ use Rattle.rules.specs.Test.{test}
 
 -- ---- words
 
--- what comes back for eight attributes
-abbrev pub back : List ℕ → ℕ → ℕ → Outcome
+-- a version of the test, right or wrong: from the bytes of a table, a closure limit and a room to what comes back
+abbrev pub Version : Type 0
+Version = List ℕ → ℕ → ℕ → Outcome
+
+-- what comes back by the rules, for eight attributes
+abbrev pub back : Version
 back bs limit room = test 8 bs limit room
 
+abbrev pub said : Outcome → Answer
+said o = o .report .answer
+
 abbrev pub answer : List ℕ → ℕ → ℕ → Answer
-answer bs limit room = back bs limit room .report .answer
+answer bs limit room = said (back bs limit room)
+
+abbrev pub NoRuleBroken : List ℕ → Type 0
+NoRuleBroken bs = (k : ℕ) → ¬ Breaks 8 bs k
 
 -- a finite complete tree of the table's grammar, rooted at any symbol
 abbrev pub TreeOf : List ℕ → Tree → Type 0
@@ -61,42 +72,69 @@ pub record TreePair (bs : List ℕ) (q : ℕ × ℕ) : Type 0 where
   pub of-tree : OfTree (grammarOf bs) (NumberHolds 8) (InTable (grammarOf bs)) q
 
 -- ---- demand 1: a bad table is refused by number, and no other; then nothing is counted or stored
-pub record RefusedExactly (bs : List ℕ) (limit room k : ℕ) : Type 0 where
-  pub exactly : (answer bs limit room ≡ Refused k) ↔ Breaks 8 bs k
-  pub nothing : Breaks 8 bs k → back bs limit room ≡ outcome (Refused k) noRoot empty 0
+pub record RefusedExactly (bs : List ℕ) (k : ℕ) (o : Outcome) : Type 0 where
+  pub exactly : (said o ≡ Refused k) ↔ Breaks 8 bs k
+  pub nothing : Breaks 8 bs k → o ≡ outcome (Refused k) noRoot empty 0
+
+abbrev pub RefusedExactlyAlways : Version → Type 0
+RefusedExactlyAlways v = (bs : List ℕ) (limit room k : ℕ) → RefusedExactly bs k (v bs limit room)
 
 -- ---- demand 2: the verdict
-pub record CircularShown (bs : List ℕ) (limit room p : ℕ) : Type 0 where
-  pub complete : TreeOf bs (shownTree bs (back bs limit room) p)
-  pub circle : HasCircle bs (shownTree bs (back bs limit room) p)
 
+-- after circular: the shown tree is complete and has a circle
+pub record CircularShown (bs : List ℕ) (p : ℕ) (o : Outcome) : Type 0 where
+  pub complete : TreeOf bs (shownTree bs o p)
+  pub circle : HasCircle bs (shownTree bs o p)
+
+abbrev pub CircularShownAlways : Version → Type 0
+CircularShownAlways v =
+    (bs : List ℕ) (limit room p : ℕ) → said (v bs limit room) ≡ Circular p → CircularShown bs p (v bs limit room)
+
+-- after noncircular: no tree has a circle
 abbrev pub NoncircularNone : List ℕ → Type 0
 NoncircularNone bs = (t : Tree) → TreeOf bs t → ¬ HasCircle bs t
 
--- out of steps at the limit L comes exactly if with a greater limit M the same passes make more than L closures; else M changes nothing
-pub record StepsExactly (bs : List ℕ) (L M room : ℕ) : Type 0 where
-  pub exactly : (answer bs L room ≡ OutOfSteps) ↔ (L < back bs M room .report .closures)
-  pub else : ¬ (answer bs L room ≡ OutOfSteps) → back bs M room ≡ back bs L room
+abbrev pub NoncircularNoneAlways : Version → Type 0
+NoncircularNoneAlways v = (bs : List ℕ) (limit room : ℕ) → said (v bs limit room) ≡ Noncircular → NoncircularNone bs
 
--- out of room at R comes exactly if with more room S, and no more closures than were made (or some number l between them and the limit), more than R entries are stored; else
--- more room changes nothing
-pub record RoomExactly (bs : List ℕ) (limit l R S : ℕ) : Type 0 where
-  pub exactly : (answer bs limit R ≡ OutOfRoom) ↔ (R < length (back bs l S .entries))
-  pub else : ¬ (answer bs limit R ≡ OutOfRoom) → back bs limit S ≡ back bs limit R
+-- out of steps at the limit L comes exactly if with a greater limit M the passes make more than L closures; else M changes nothing
+pub record StepsExactly (bs : List ℕ) (L M room : ℕ) (o : Outcome) : Type 0 where
+  pub exactly : (said o ≡ OutOfSteps) ↔ (L < back bs M room .report .closures)
+  pub else : ¬ (said o ≡ OutOfSteps) → back bs M room ≡ o
+
+abbrev pub StepsExactlyAlways : Version → Type 0
+StepsExactlyAlways v = (bs : List ℕ) (L M room : ℕ) → L < M → StepsExactly bs L M room (v bs L room)
+
+-- out of room at R comes exactly if with more room S the passes store more than R entries, within l closures; else more room changes nothing
+pub record RoomExactly (bs : List ℕ) (limit l R S : ℕ) (o : Outcome) : Type 0 where
+  pub exactly : (said o ≡ OutOfRoom) ↔ (R < length (back bs l S .entries))
+  pub else : ¬ (said o ≡ OutOfRoom) → back bs limit S ≡ o
+
+-- l is the limit, or the number of closures that were made, or any number between them
+abbrev pub RoomExactlyAlways : Version → Type 0
+RoomExactlyAlways v =
+    (bs : List ℕ) (limit l R S : ℕ) → R < S → back bs limit R .report .closures ≤ l → l ≤ limit
+    → RoomExactly bs limit l R S (v bs limit R)
 
 -- more than R different pairs of root symbol and graph
 abbrev pub MorePairs : List ℕ → ℕ → Type 0
 MorePairs bs R = (l : List (ℕ × ℕ)) × Distinct l × (R < length l) × ((q : ℕ × ℕ) → List·Memᴰ q l → TreePair bs q)
 
--- where no tree has a circle and the run does not end out of steps: out of room exactly if the trees have more than R different pairs of
--- root symbol and graph; else the entries are those pairs, each once
-pub record RoomCounts (bs : List ℕ) (limit R : ℕ) : Type 0 where
-  pub exactly : (answer bs limit R ≡ OutOfRoom) ↔ MorePairs bs R
-  pub once : Distinct (pairs (told (grammarOf bs) (back bs limit R .entries)) (length (back bs limit R .entries)))
-  pub those :
-      ¬ (answer bs limit R ≡ OutOfRoom)
-      → (q : ℕ × ℕ)
-      → List·Memᴰ q (pairs (told (grammarOf bs) (back bs limit R .entries)) (length (back bs limit R .entries))) ↔ TreePair bs q
+-- the symbols and graphs of the entries
+abbrev pub storedPairs : List ℕ → Outcome → List (ℕ × ℕ)
+storedPairs bs o = pairs (told (grammarOf bs) (o .entries)) (length (o .entries))
+
+-- out of room exactly if the trees have more than R different pairs; else the entries are those pairs, each once
+pub record RoomCounts (bs : List ℕ) (R : ℕ) (o : Outcome) : Type 0 where
+  pub exactly : (said o ≡ OutOfRoom) ↔ MorePairs bs R
+  pub once : Distinct (storedPairs bs o)
+  pub those : ¬ (said o ≡ OutOfRoom) → (q : ℕ × ℕ) → List·Memᴰ q (storedPairs bs o) ↔ TreePair bs q
+
+-- where the table is taken, no tree has a circle and the run does not end out of steps
+abbrev pub RoomCountsAlways : Version → Type 0
+RoomCountsAlways v =
+    (bs : List ℕ) (limit R : ℕ) → NoRuleBroken bs → NoncircularNone bs → ¬ (said (v bs limit R) ≡ OutOfSteps)
+    → RoomCounts bs R (v bs limit R)
 
 -- ---- demand 3: evaluators, on a tree t
 
@@ -111,6 +149,11 @@ pub record NeverStill (bs : List ℕ) (t : Tree) : Type 0 where
   -- and it takes as many values as were not given
   pub ends : {n : ℕ} {d : State Instance} → Reached (grammarOf bs) t n d → n ≤ left (given (grammarOf bs) t) (instances (grammarOf bs) t)
 
+-- after noncircular: on any tree
+abbrev pub NeverStillAlways : Version → Type 0
+NeverStillAlways v =
+    (bs : List ℕ) (limit room : ℕ) → said (v bs limit room) ≡ Noncircular → (t : Tree) → TreeOf bs t → NeverStill bs t
+
 -- whatever an evaluator has reached, a value is left over, and it comes to stand still
 pub record StandsStillLeft (bs : List ℕ) (t : Tree) : Type 0 where
   pub left-over :
@@ -119,3 +162,12 @@ pub record StandsStillLeft (bs : List ℕ) (t : Tree) : Type 0 where
   pub stands :
       Evaluator (grammarOf bs) t → (n : ℕ) × (d : State Instance) × Reached (grammarOf bs) t n d × StandsStill (grammarOf bs) t d
   pub ends : {n : ℕ} {d : State Instance} → Reached (grammarOf bs) t n d → n ≤ length (instances (grammarOf bs) t)
+
+-- after circular: on the shown tree
+abbrev pub StandsStillLeftAlways : Version → Type 0
+StandsStillLeftAlways v =
+    (bs : List ℕ) (limit room p : ℕ) → said (v bs limit room) ≡ Circular p → StandsStillLeft bs (shownTree bs (v bs limit room) p)
+
+-- ---- and every outcome, with its counts and its entries, is that of the passes
+abbrev pub PassesFollowed : Version → Type 0
+PassesFollowed v = (bs : List ℕ) (limit room : ℕ) → v bs limit room ≡ back bs limit room

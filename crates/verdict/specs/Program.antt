@@ -24,7 +24,7 @@ pub record Program (bs : List ℕ) (limit : ℕ) (σ : Slices) (r : Report) (τ 
   pub untouched : (k : ℕ) → r .answer ≡ Refused k → τ ≡ σ
   -- 2: circular with a tree that is shown, noncircular only if no tree has a circle, 8 and 9 exactly
   pub entries : (k : ℕ) → k < r .entries → Stands bs limit σ τ k
-  pub circular : (p : ℕ) → r .answer ≡ Circular p → CircularShown bs limit (roomOf σ) p
+  pub circular : (p : ℕ) → r .answer ≡ Circular p → CircularShown bs p (back bs limit (roomOf σ))
   pub noncircular : r .answer ≡ Noncircular → NoncircularNone bs
   pub steps : (M : ℕ) → limit < M → (r .answer ≡ OutOfSteps) ↔ (limit < back bs M (roomOf σ) .report .closures)
   pub room : (S : ℕ) → roomOf σ < S → (r .answer ≡ OutOfRoom) ↔ (roomOf σ < length (back bs limit S .entries))
