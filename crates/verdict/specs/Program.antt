@@ -1,33 +1,68 @@
--- The demands of the program's own result: of any report r and slices τ that the test over the lent slices σ may leave. Assumes nothing.
+-- The demands of the program's own result: of any report r and slices τ that the test over the lent slices σ may leave. What is asked of an
+-- outcome is asked of what a caller reads, so the shown tree is that of the slices and of the report's root. Assumes nothing.
 use mathlib.Core.List.{List}
-use mathlib.Core.Logic.{_↔_}
 use mathlib.Core.Path.{_≡_}
-use Prim.Native.Nat.{ℕ, _<_}
-use lib.ListN.{length, getD}
+use Prim.Native.Nat.{ℕ, _*_, _≤_, _<_}
+use lib.ListN.{getD, take, drop}
+use Rattle.numbers.specs.Lists.{written}
 use Rattle.grammar.specs.Rules.{Breaks}
 use Rattle.trees.specs.Tree.{Tree}
-use Rattle.rules.specs.declared.Answer.the-variants.{Noncircular, Circular, Refused, OutOfSteps, OutOfRoom}
+use Rattle.rules.specs.declared.Answer.the-variants.{Noncircular, Circular, OutOfSteps}
 use Rattle.rules.specs.declared.Report.{Report}
-use Rattle.rules.specs.Passes.{entry}
-use Rattle.passes.specs.Slices.{Slices, roomOf}
-use Rattle.verdict.specs.Demands.{back, TreeOf, shownTree, CircularShown, NoncircularNone, NeverStill, StandsStillLeft}
+use Rattle.rules.specs.declared.Entry.{Entry}
+use Rattle.rules.specs.Passes.{Outcome, entry}
+use Rattle.passes.specs.Slices.{Slices, roomOf, Tested}
+use Rattle.passes.specs.Follow.{entriesTo}
+use Rattle.verdict.specs.Demands.{back, said, NoRuleBroken, TreeOf, shownTree, RefusedExactly, CircularShown, NoncircularNone, StepsExactly, RoomExactly, RoomCounts, NeverStill, StandsStillLeft}
+
+-- what a caller reads: the report, and as many entries out of the slices as it says
+abbrev pub readOut : Report → Slices → Outcome
+readOut r τ = record { report = r; entries = entriesTo τ (r .entries) }
 
 -- the entry k of what comes back stands at k in the slices
 pub record Stands (bs : List ℕ) (limit : ℕ) (σ τ : Slices) (k : ℕ) : Type 0 where
   pub symbol : getD (τ .symbols) k 0 ≡ entry (back bs limit (roomOf σ) .entries) k .symbol
   pub graph : getD (τ .graphs) k 0 ≡ entry (back bs limit (roomOf σ) .entries) k .graph
   pub production : getD (τ .productions) k 0 ≡ entry (back bs limit (roomOf σ) .entries) k .production
+  pub kids : take 7 (drop (7 * k) (τ .kids)) ≡ entry (back bs limit (roomOf σ) .entries) k .kids
+
+-- the places of the entries from n on are as before
+pub record RestBefore (n : ℕ) (σ τ : Slices) : Type 0 where
+  pub symbols : drop n (τ .symbols) ≡ drop n (σ .symbols)
+  pub graphs : drop n (τ .graphs) ≡ drop n (σ .graphs)
+  pub productions : drop n (τ .productions) ≡ drop n (σ .productions)
+  pub kids : drop (7 * n) (τ .kids) ≡ drop (7 * n) (σ .kids)
+
+-- all that is asked of one outcome, for a limit and a room R
+pub record Demanded (bs : List ℕ) (limit R : ℕ) (o : Outcome) : Type 0 where
+  -- 1: refused by number exactly
+  pub refused : (k : ℕ) → RefusedExactly bs k o
+  -- 2: circular with a tree that is shown, noncircular only if no tree has a circle, 8 and 9 exactly
+  pub circular : (p : ℕ) → said o ≡ Circular p → CircularShown bs p o
+  pub noncircular : said o ≡ Noncircular → NoncircularNone bs
+  pub steps : (M : ℕ) → limit < M → StepsExactly bs limit M R o
+  pub room : (l S : ℕ) → R < S → o .report .closures ≤ l → l ≤ limit → RoomExactly bs limit l R S o
+  pub room-counts : NoRuleBroken bs → NoncircularNone bs → ¬ (said o ≡ OutOfSteps) → RoomCounts bs R o
+  -- 3: evaluators
+  pub never-still : said o ≡ Noncircular → (t : Tree) → TreeOf bs t → NeverStill bs t
+  pub stands-still : (p : ℕ) → said o ≡ Circular p → StandsStillLeft bs (shownTree bs o p)
 
 pub record Program (bs : List ℕ) (limit : ℕ) (σ : Slices) (r : Report) (τ : Slices) : Type 0 where
-  -- 1: refused by number exactly, with the lent slices untouched
-  pub refused : (k : ℕ) → (r .answer ≡ Refused k) ↔ Breaks 8 bs k
-  pub untouched : (k : ℕ) → r .answer ≡ Refused k → τ ≡ σ
-  -- 2: circular with a tree that is shown, noncircular only if no tree has a circle, 8 and 9 exactly
+  -- the report with its counts and its root, every entry, and the rest of the room; after a refusal all of it
+  pub report : r ≡ back bs limit (roomOf σ) .report
   pub entries : (k : ℕ) → k < r .entries → Stands bs limit σ τ k
-  pub circular : (p : ℕ) → r .answer ≡ Circular p → CircularShown bs p (back bs limit (roomOf σ))
-  pub noncircular : r .answer ≡ Noncircular → NoncircularNone bs
-  pub steps : (M : ℕ) → limit < M → (r .answer ≡ OutOfSteps) ↔ (limit < back bs M (roomOf σ) .report .closures)
-  pub room : (S : ℕ) → roomOf σ < S → (r .answer ≡ OutOfRoom) ↔ (roomOf σ < length (back bs limit S .entries))
-  -- 3: evaluators
-  pub never-still : r .answer ≡ Noncircular → (t : Tree) → TreeOf bs t → NeverStill bs t
-  pub stands-still : (p : ℕ) → r .answer ≡ Circular p → StandsStillLeft bs (shownTree bs (back bs limit (roomOf σ)) p)
+  pub rest : RestBefore (r .entries) σ τ
+  pub untouched : (k : ℕ) → Breaks 8 bs k → τ ≡ σ
+  pub whole : readOut r τ ≡ back bs limit (roomOf σ)
+  pub demanded : Demanded bs limit (roomOf σ) (readOut r τ)
+
+-- of whatever meets the promise of the test
+abbrev pub ProgramAlways : Type 0
+ProgramAlways = (bs : List ℕ) (limit : ℕ) (σ : Slices) (r : Report) (τ : Slices) → Tested bs limit σ r τ → Program bs limit σ r τ
+
+-- the same where a row of records is lent, whose front is written over
+abbrev pub RowAlways : Type 0
+RowAlways =
+    (bs : List ℕ) (limit R : ℕ) (r : Report) (before after : List Entry) → r ≡ back bs limit R .report
+    → after ≡ written (back bs limit R .entries) before
+    → Demanded bs limit R (record { report = r; entries = take (r .entries) after })
