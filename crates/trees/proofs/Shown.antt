@@ -1,6 +1,6 @@
 -- The shown tree of each entry is complete, with the entry's symbol and graph; the shown tree of a circular root has a circle.
 -- Assumes nothing.
-use mathlib.Core.List.{List, [], _∷_}
+use mathlib.Core.List.{List, [], _∷_, List·Memᴰ, List·Memᴰ·not-nil}
 use mathlib.Core.Logic.{inl}
 use mathlib.Core.Path.{_≡_, refl, _∙_, ap, ap₂, subst}
 use Prim.Native.Nat.{ℕ, zero, suc, _<_}
@@ -11,6 +11,7 @@ use Rattle.grammar.specs.Grammar.{Grammar, production, rights}
 use Rattle.trees.specs.Tree.{Tree, node, cons, Complete, OneEach, TreeEdge, Circular, Valid}
 use Rattle.trees.specs.Compound.{OverGraphs, Makes, AreGraphs}
 use Rattle.trees.specs.Record.{Entry, row, levels, shownEntry, shown, Fits, graphs, Derived, Shows}
+use Rattle.trees.proofs.Lists.{at-cons}
 use Rattle.trees.proofs.Values.{length-rights}
 use Rattle.trees.proofs.Graphs.{makes-graph, graphs-circle}
 
@@ -20,6 +21,13 @@ fits-length entry n [] [] w = refl
 fits-length entry n [] (s ∷ ss) w = absurd w
 fits-length entry n (k ∷ ks) [] w = absurd w
 fits-length entry n (k ∷ ks) (s ∷ ss) (l, e, w) = ap suc (fits-length entry n ks ss w)
+
+-- the numbers are below n
+pub fits-below : {Graph : Type 0} (entry : ℕ → Entry Graph) (n : ℕ) (ks ss : List ℕ) → Fits entry n ks ss → (j : ℕ) → List·Memᴰ j ks → j < n
+fits-below entry n [] [] w j m = absurd (List·Memᴰ·not-nil m)
+fits-below entry n [] (s ∷ ss) w j m = absurd w
+fits-below entry n (k ∷ ks) [] w j m = absurd w
+fits-below entry n (k ∷ ks) (s ∷ ss) (l, e, w) j m = at-cons (λ i. i < n) l (fits-below entry n ks ss w j) m
 
 pub graphs-count :
     (g : Grammar) → Valid g → {Graph : Type 0} (entry : ℕ → Entry Graph) (n p : ℕ) (ks : List ℕ)

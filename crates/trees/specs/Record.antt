@@ -27,7 +27,7 @@ module _ {Graph : Type 0} (entry : ℕ → Entry Graph) where
   levels zero k = node 0 nil
   levels (suc d) k = node (entry k .production) (row (λ j. levels d j) (entry k .kids))
 
-  -- each number is smaller than its parent's, so the entry k has at most k + 1 levels
+  -- each number is smaller than its parent's, so the entry k has at most k + 1 levels, and nothing is cut off (`shown-again`)
   abbrev pub shownEntry : ℕ → Tree
   shownEntry k = levels (suc k) k
 

@@ -32,7 +32,7 @@ use Rattle.orders.specs.Stored.{In, Slots}
 use Rattle.orders.proofs.Answers as runs-shown
 use Rattle.verdict.specs.Demands.{back, said, answer, NoRuleBroken, told, shownTree, TreePair, RefusedExactlyAlways, CircularShownAlways, NoncircularNoneAlways, StepsExactly, StepsExactlyAlways, RoomExactly, RoomExactlyAlways, RoomCounts, RoomCountsAlways, NeverStillAlways, StandsStillLeftAlways, PassesFollowed}
 use Rattle.verdict.proofs.Obeys.{rights-few, obeys}
-use Rattle.verdict.proofs.Trees.{root-complete, root-circle, saturated}
+use Rattle.verdict.proofs.Trees.{earlier, again, root-complete, root-circle, root-earlier, saturated}
 use Rattle.verdict.proofs.Room.{stored-once, stored-pairs, pairs-stored, no-more, one-more}
 
 -- ---- the cases of an answer are told apart
@@ -180,6 +180,11 @@ circular-shown bs limit room p h =
       circle =
           root-circle 8 (grammarOf bs) (obeys 8 bs good .0) (obeys 8 bs good .1) (back bs limit room .entries) (s .made) p
           (back bs limit room .report .root) root;
+      root-earlier =
+          root-earlier 8 (grammarOf bs) (obeys 8 bs good .0) (obeys 8 bs good .1) (back bs limit room .entries) (s .made) p
+          (back bs limit room .report .root) root;
+      earlier = earlier 8 (grammarOf bs) (obeys 8 bs good .0) (obeys 8 bs good .1) (back bs limit room .entries) (s .made);
+      again = again 8 (grammarOf bs) (obeys 8 bs good .0) (obeys 8 bs good .1) (back bs limit room .entries) (s .made);
     }
 
 -- after noncircular the store has every tree
@@ -303,7 +308,8 @@ never-still bs limit room h t w =
     record {
       goes-on = evaluators.never-still (grammarOf bs) (obeys 8 bs good .0) (InTable (grammarOf bs)) t w none;
       all-computed = λ {n} {d} r s. evaluators.all-computed (grammarOf bs) (obeys 8 bs good .0) (InTable (grammarOf bs)) t w none r s .0;
-      ends = λ {n} {d} r. omega (arith, evaluators.takings (grammarOf bs) t r);
+      counts = λ {n} {d} r. evaluators.takings (grammarOf bs) t r;
+      ends = λ {n} {d} r s. evaluators.all-computed (grammarOf bs) (obeys 8 bs good .0) (InTable (grammarOf bs)) t w none r s .1;
     }
 
 pub stands-still : StandsStillLeftAlways back
@@ -318,6 +324,7 @@ stands-still bs limit room p h =
           (x .0, y .0, y .1);
       stands = evaluators.stood (grammarOf bs) t;
       ends = λ {n} {d} r. evaluators.run-ends (grammarOf bs) t r;
+      some = evaluators.evaluator (grammarOf bs) t;
     }
 
 -- ---- the rules themselves

@@ -14,9 +14,9 @@ use Rattle.graph.proofs.Root.{root-lt}
 use Rattle.trees.specs.Tree.{Complete, InTable, TreeEdge, Circular, Valid, AtMost}
 use Rattle.trees.specs.Compound.{OverGraphs, Makes, NumberHolds}
 use Rattle.trees.specs.Record as record-of-trees
-use Rattle.trees.specs.Record.{shown, Derived, Shows, OfTree}
+use Rattle.trees.specs.Record.{shownEntry, shown, Derived, Shows, OfTree}
 use Rattle.trees.proofs.Lists.{of-upFrom, upFrom-holds}
-use Rattle.trees.proofs.Shown.{graphs-count, shown-complete, shown-graph, shown-circle}
+use Rattle.trees.proofs.Shown.{fits-below, graphs-count, shown-complete, shown-graph, shown-circle, shown-again}
 use Rattle.rules.specs.declared.Entry.{Entry}
 use Rattle.rules.specs.Passes.{System, entry, graphs}
 use Rattle.rules.specs.Test.{closed, systemOf, byNumber}
@@ -91,6 +91,13 @@ module _ (w : ℕ) (g : Grammar) (valid : Valid g) (few : AtMost w g) where
     pub all-derived : (k : ℕ) → k < length es → Derived g (NumberHolds w) (InTable g) (told g es) k
     all-derived k l = derived es k (made k l)
 
+    -- each number is smaller than its parent's
+    pub earlier : (k : ℕ) → k < length es → (j : ℕ) → List·Memᴰ j (told g es k .kids) → j < k
+    earlier k l = fits-below (told g es) k (told g es k .kids) (rights (production g (entry es k .production))) (all-derived k l .right)
+
+    pub again : (k : ℕ) → k < length es → shownEntry (told g es) k ≡ shown (told g es) (told g es k .production) (told g es k .kids)
+    again = shown-again g (NumberHolds w) (InTable g) (told g es) (length es) all-derived
+
     -- what is made of all entries is a pair of some tree
     pub next-tree : (e : Entry) → Made (systemOf w g) (In (byNumber g)) es (length es) e
         → OfTree g (NumberHolds w) (InTable g) (e .symbol, e .graph)
@@ -108,6 +115,9 @@ module _ (w : ℕ) (g : Grammar) (valid : Valid g) (few : AtMost w g) where
       root-fits : record-of-trees.Fits (told g es) (length es) (kidsOf g p slots) (rights (production g p))
       unfolding systemOf
       root-fits = fits-told g es (length es) (kidsOf g p slots) (rights (production g p)) (root .kids .fits)
+
+      pub root-earlier : (j : ℕ) → List·Memᴰ j (kidsOf g p slots) → j < length es
+      root-earlier = fits-below (told g es) (length es) (kidsOf g p slots) (rights (production g p)) root-fits
 
       pub root-complete : Complete g (InTable g) (shown (told g es) p (kidsOf g p slots))
       root-complete =

@@ -5,7 +5,7 @@ use mathlib.Core.Bool.{true, false}
 use mathlib.Core.List.{List, List·Memᴰ}
 use mathlib.Core.Logic.{_↔_}
 use mathlib.Core.Path.{_≡_}
-use Prim.Native.Nat.{ℕ, _^_, _≤_, _<_}
+use Prim.Native.Nat.{ℕ, _+_, _^_, _≤_, _<_}
 use lib.ListN.{length, take}
 use Rattle.numbers.specs.Paths.{Circle}
 use Rattle.grammar.specs.Grammar.{Grammar, production, rights}
@@ -16,7 +16,7 @@ use Rattle.trees.specs.Tree.{Tree, Instance, Complete, InTable, TreeEdge, insta
 use Rattle.trees.specs.Compound.{NumberHolds}
 use Rattle.trees.specs.Evaluator.{State, left, given, MayTake, StandsStill, Reached, Evaluator}
 use Rattle.trees.specs.Record as record-of-trees
-use Rattle.trees.specs.Record.{shown, pairs, OfTree}
+use Rattle.trees.specs.Record.{shownEntry, shown, pairs, OfTree}
 use Rattle.rules.specs.declared.Answer.{Answer}
 use Rattle.rules.specs.declared.Answer.the-variants.{Noncircular, Circular, Refused, OutOfSteps, OutOfRoom}
 use Rattle.rules.specs.declared.Entry.{Entry}
@@ -62,9 +62,16 @@ told g es k =
       kids = kidsOf g (entry es k .production) (entry es k .kids);
     }
 
+abbrev pub entryOf : List ℕ → Outcome → ℕ → record-of-trees.Entry ℕ
+entryOf bs o = told (grammarOf bs) (o .entries)
+
+-- the tree of an entry
+abbrev pub entryTree : List ℕ → Outcome → ℕ → Tree
+entryTree bs o = shownEntry (entryOf bs o)
+
 -- the shown tree of a circular answer: the root's production, and below it the trees of its entry numbers
 abbrev pub shownTree : List ℕ → Outcome → ℕ → Tree
-shownTree bs o p = shown (told (grammarOf bs) (o .entries)) p (kidsOf (grammarOf bs) p (o .report .root))
+shownTree bs o p = shown (entryOf bs o) p (kidsOf (grammarOf bs) p (o .report .root))
 
 -- a symbol and the number of a graph, of some tree
 pub record TreePair (bs : List ℕ) (q : ℕ × ℕ) : Type 0 where
@@ -85,6 +92,11 @@ RefusedExactlyAlways v = (bs : List ℕ) (limit room k : ℕ) → RefusedExactly
 pub record CircularShown (bs : List ℕ) (p : ℕ) (o : Outcome) : Type 0 where
   pub complete : TreeOf bs (shownTree bs o p)
   pub circle : HasCircle bs (shownTree bs o p)
+  -- finite because each number is smaller than its parent's: those of the root are below the number of entries, those of an entry below its own
+  pub root-earlier : (j : ℕ) → List·Memᴰ j (kidsOf (grammarOf bs) p (o .report .root)) → j < length (o .entries)
+  pub earlier : (k : ℕ) → k < length (o .entries) → (j : ℕ) → List·Memᴰ j (entryOf bs o k .kids) → j < k
+  -- so nothing is cut off: the tree of each entry is again its production over the trees of its entry numbers
+  pub again : (k : ℕ) → k < length (o .entries) → entryTree bs o k ≡ shown (entryOf bs o) (entryOf bs o k .production) (entryOf bs o k .kids)
 
 abbrev pub CircularShownAlways : Version → Type 0
 CircularShownAlways v =
@@ -122,7 +134,7 @@ MorePairs bs R = (l : List (ℕ × ℕ)) × Distinct l × (R < length l) × ((q 
 
 -- the symbols and graphs of the entries
 abbrev pub storedPairs : List ℕ → Outcome → List (ℕ × ℕ)
-storedPairs bs o = pairs (told (grammarOf bs) (o .entries)) (length (o .entries))
+storedPairs bs o = pairs (entryOf bs o) (length (o .entries))
 
 -- out of room exactly if the trees have more than R different pairs; else the entries are those pairs, each once
 pub record RoomCounts (bs : List ℕ) (R : ℕ) (o : Outcome) : Type 0 where
@@ -146,15 +158,20 @@ pub record NeverStill (bs : List ℕ) (t : Tree) : Type 0 where
   pub all-computed :
       {n : ℕ} {d : State Instance} → Reached (grammarOf bs) t n d → StandsStill (grammarOf bs) t d
       → (y : Instance) → List·Memᴰ y (instances (grammarOf bs) t) → d y ≡ true
-  -- and it takes as many values as were not given
-  pub ends : {n : ℕ} {d : State Instance} → Reached (grammarOf bs) t n d → n ≤ left (given (grammarOf bs) t) (instances (grammarOf bs) t)
+  -- each taking leaves one value less; so it ends, after as many takings as there are values that were not given
+  pub counts :
+      {n : ℕ} {d : State Instance} → Reached (grammarOf bs) t n d
+      → n + left d (instances (grammarOf bs) t) ≡ left (given (grammarOf bs) t) (instances (grammarOf bs) t)
+  pub ends :
+      {n : ℕ} {d : State Instance} → Reached (grammarOf bs) t n d → StandsStill (grammarOf bs) t d
+      → n ≡ left (given (grammarOf bs) t) (instances (grammarOf bs) t)
 
 -- after noncircular: on any tree
 abbrev pub NeverStillAlways : Version → Type 0
 NeverStillAlways v =
     (bs : List ℕ) (limit room : ℕ) → said (v bs limit room) ≡ Noncircular → (t : Tree) → TreeOf bs t → NeverStill bs t
 
--- whatever an evaluator has reached, a value is left over, and it comes to stand still
+-- whatever an evaluator has reached, a value is left over, and it comes to stand still; and there is an evaluator
 pub record StandsStillLeft (bs : List ℕ) (t : Tree) : Type 0 where
   pub left-over :
       {n : ℕ} {d : State Instance} → Reached (grammarOf bs) t n d
@@ -162,6 +179,7 @@ pub record StandsStillLeft (bs : List ℕ) (t : Tree) : Type 0 where
   pub stands :
       Evaluator (grammarOf bs) t → (n : ℕ) × (d : State Instance) × Reached (grammarOf bs) t n d × StandsStill (grammarOf bs) t d
   pub ends : {n : ℕ} {d : State Instance} → Reached (grammarOf bs) t n d → n ≤ length (instances (grammarOf bs) t)
+  pub some : Evaluator (grammarOf bs) t
 
 -- after circular: on the shown tree
 abbrev pub StandsStillLeftAlways : Version → Type 0
