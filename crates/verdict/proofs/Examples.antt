@@ -32,15 +32,15 @@ noncircular-A : answer tableA 10 3 ≡ Noncircular
 unfolding opened tableA
 noncircular-A = refl
 
-unbroken-A : NoRuleBroken tableA
+pub unbroken-A : NoRuleBroken tableA
 unbroken-A = when-noncircular tableA 10 3 noncircular-A
 
 -- ---- demand 2 at A
 
-none-A : NoncircularNone tableA
+pub none-A : NoncircularNone tableA
 none-A = noncircular-none tableA 10 3 noncircular-A
 
-closures-A : back tableA 10 3 .report .closures ≡ 10
+pub closures-A : back tableA 10 3 .report .closures ≡ 10
 unfolding opened tableA
 closures-A = refl
 
@@ -48,7 +48,7 @@ closures-A = refl
 steps-A : answer tableA 9 3 ≡ OutOfSteps
 steps-A = steps-exactly tableA 9 10 3 (omega arith) .exactly .1 (omega (arith, closures-A))
 
-entries-A : length (back tableA 10 3 .entries) ≡ 3
+pub entries-A : length (back tableA 10 3 .entries) ≡ 3
 unfolding opened tableA
 entries-A = refl
 
@@ -65,7 +65,7 @@ more-than-two : MorePairs tableA 2
 more-than-two =
     room-counts tableA 10 2 unbroken-A none-A (λ e. let z : _≡_ {A = ℕ} 0 1 = cc room-A in omega arith) .exactly .0 room-A
 
-not-three : ¬ MorePairs tableA 3
+pub not-three : ¬ MorePairs tableA 3
 not-three m =
     let c = room-counts tableA 10 3 unbroken-A none-A (λ e. let z : _≡_ {A = ℕ} 0 1 = cc noncircular-A in omega arith) in
     let k = c .exactly .1 m in
@@ -80,7 +80,7 @@ goes-on-A : NeverStill tableA (node 0 (cons (node 1 nil) nil))
 goes-on-A = never-still tableA 10 3 noncircular-A (node 0 (cons (node 1 nil) nil)) tree-A
 
 -- ---- demands 2 and 3 at B: the shown tree, its circle, and evaluators on it
-circular-B : answer tableB 3 2 ≡ Circular 0
+pub circular-B : answer tableB 3 2 ≡ Circular 0
 unfolding opened tableB
 circular-B = refl
 
@@ -91,18 +91,18 @@ shown-B = refl
 circle-B : HasCircle tableB (shownTree tableB (back tableB 3 2) 0)
 circle-B = circular-shown tableB 3 2 0 circular-B .circle
 
-still-B : StandsStillLeft tableB (shownTree tableB (back tableB 3 2) 0)
+pub still-B : StandsStillLeft tableB (shownTree tableB (back tableB 3 2) 0)
 still-B = stands-still tableB 3 2 0 circular-B
 
 -- B makes 3 closures and stores 2 entries
-closures-B : back tableB 3 2 .report .closures ≡ 3
+pub closures-B : back tableB 3 2 .report .closures ≡ 3
 unfolding opened tableB
 closures-B = refl
 
 steps-B : answer tableB 2 2 ≡ OutOfSteps
 steps-B = steps-exactly tableB 2 3 2 (omega arith) .exactly .1 (omega (arith, closures-B))
 
-entries-B : length (back tableB 3 2 .entries) ≡ 2
+pub entries-B : length (back tableB 3 2 .entries) ≡ 2
 unfolding opened tableB
 entries-B = refl
 

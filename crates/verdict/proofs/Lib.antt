@@ -9,3 +9,4 @@ pub mod Room
 pub mod Demands
 pub mod Program
 pub mod Examples
+pub mod Wrong

@@ -1,0 +1,117 @@
+-- Each wrong version falls to the demand that it fails, whatever else it does. Assumes nothing.
+use mathlib.Core.Path.{_≡_, refl, sym, ap, _∙_}
+use mathlib.Core.Bool.{true, false, true≢false}
+use mathlib.Core.List.{List, []}
+use Prim.Native.Nat.{ℕ, _≤_, _<_}
+use native.Mathlib.Omega.{arith}
+use lib.ListN.{length}
+use Rattle.rules.specs.declared.Answer.the-variants.{Noncircular, OutOfSteps, OutOfRoom}
+use Rattle.rules.specs.Passes.{Outcome}
+use Rattle.rules.specs.Test.{opened}
+use Rattle.rules.specs.Small.{tableA, tableB}
+use Rattle.verdict.specs.Demands.{Version, back, said, shownTree, CircularShown, RefusedExactlyAlways, CircularShownAlways, NoncircularNone, NoncircularNoneAlways, StepsExactlyAlways, RoomExactlyAlways, RoomCountsAlways, NeverStill, NeverStillAlways, PassesFollowed}
+use Rattle.verdict.specs.Wrong.{RefusesEvery, AlwaysOutOfSteps, AlwaysOutOfRoom, AlwaysNoncircular, AlwaysCircular, StoresNothing, BeginsOnePass, onePass, AlwaysCounts}
+use Rattle.verdict.proofs.Demands.{circular-shown}
+use Rattle.verdict.proofs.Examples.{unbroken-A, none-A, closures-A, entries-A, not-three, circular-B, still-B, closures-B, entries-B}
+
+-- ---- demand 1: only bad tables are refused, and A is not bad
+pub refuses-every : (v : Version) → RefusedExactlyAlways v → ¬ RefusesEvery v
+refuses-every v demand wrong =
+    let r = wrong tableA 10 3 in
+    unbroken-A (r .0) (demand tableA 10 3 (r .0) .exactly .0 (r .1))
+
+-- ---- demand 2: out of steps and out of room come exactly when they must
+-- no limit lets the passes over A make more than 10 closures
+calm-A : back tableA 11 3 .report .closures ≡ 10
+unfolding opened tableA
+calm-A = refl
+
+pub always-out-of-steps : (v : Version) → StepsExactlyAlways v → ¬ AlwaysOutOfSteps v
+always-out-of-steps v demand wrong =
+    let more = demand tableA 10 11 3 (omega arith) .exactly .0 (wrong tableA 10 3) in
+    omega (arith, calm-A)
+
+-- no room lets them store more than 3 entries
+small-A : length (back tableA 10 4 .entries) ≡ 3
+unfolding opened tableA
+small-A = refl
+
+pub always-out-of-room : (v : Version) → RoomExactlyAlways v → ¬ AlwaysOutOfRoom v
+always-out-of-room v demand wrong =
+    let more = demand tableA 10 10 3 4 (omega arith) (omega (arith, closures-A)) (omega arith) .exactly .0 (wrong tableA 10 3) in
+    omega (arith, small-A)
+
+-- and the trees of A have no more than 3 pairs of root symbol and graph
+pub always-out-of-room-counts : (v : Version) → RoomCountsAlways v → ¬ AlwaysOutOfRoom v
+always-out-of-room-counts v demand wrong =
+    let w = wrong tableA 10 3 in
+    not-three
+    (demand tableA 10 3 unbroken-A none-A (λ e. let z : _≡_ {A = ℕ} 0 1 = cc in omega arith) .exactly .0 w)
+
+-- ---- demands 2 and 3 at B: a tree has a circle, and on it an evaluator stands still with a value left over
+pub some-B : ¬ NoncircularNone tableB
+some-B none = let c = circular-shown tableB 3 2 0 circular-B in none (shownTree tableB (back tableB 3 2) 0) (c .complete) (c .circle)
+
+pub still-early-B : ¬ NeverStill tableB (shownTree tableB (back tableB 3 2) 0)
+still-early-B never =
+    let s = still-B .stands (still-B .some) in
+    let y = still-B .left-over (s .2) in
+    true≢false (sym (never .all-computed (s .2) (s .3) (y .0) (y .1)) ∙ y .2)
+
+pub always-noncircular : (v : Version) → NoncircularNoneAlways v → ¬ AlwaysNoncircular v
+always-noncircular v demand wrong = some-B (demand tableB 3 2 (wrong tableB 3 2))
+
+pub always-noncircular-still : (v : Version) → NeverStillAlways v → ¬ AlwaysNoncircular v
+always-noncircular-still v demand wrong =
+    still-early-B
+    (demand tableB 3 2 (wrong tableB 3 2) (shownTree tableB (back tableB 3 2) 0) (circular-shown tableB 3 2 0 circular-B .complete))
+
+-- ---- demand 2 at A: no outcome shows a tree with a circle
+pub no-tree-A : (p : ℕ) (o : Outcome) → ¬ CircularShown tableA p o
+no-tree-A p o c = none-A (shownTree tableA o p) (c .complete) (c .circle)
+
+pub always-circular : (v : Version) → CircularShownAlways v → ¬ AlwaysCircular v
+always-circular v demand wrong =
+    let r = wrong tableA 10 3 in
+    no-tree-A (r .0) (v tableA 10 3) (demand tableA 10 3 (r .0) (r .1))
+
+-- ---- the passes, at A and B
+passes-A : back tableA 10 3 .report .passes ≡ 3
+unfolding opened tableA
+passes-A = refl
+
+passes-B : back tableB 3 2 .report .passes ≡ 2
+unfolding opened tableB
+passes-B = refl
+
+pub stores-nothing : (v : Version) → PassesFollowed v → (¬ StoresNothing tableA 10 3 v) × (¬ StoresNothing tableB 3 2 v)
+stores-nothing v demand = (
+  λ wrong. omega (arith, entries-A, ap (λ (o : Outcome). length (o .entries)) (demand tableA 10 3), ap length wrong),
+  λ wrong. omega (arith, entries-B, ap (λ (o : Outcome). length (o .entries)) (demand tableB 3 2), ap length wrong),
+)
+
+pub one-pass : (v : Version) → PassesFollowed v → (¬ BeginsOnePass tableA 10 3 v) × (¬ BeginsOnePass tableB 3 2 v)
+one-pass v demand = (
+  λ wrong. omega (arith, passes-A, ap (λ (o : Outcome). o .report .passes) (demand tableA 10 3)),
+  λ wrong. omega (arith, passes-B, ap (λ (o : Outcome). o .report .passes) (demand tableB 3 2)),
+)
+
+-- one honest pass over B has met no circle yet
+noncircular-one-pass : said (onePass tableB 3 2) ≡ Noncircular
+unfolding opened tableB
+noncircular-one-pass = refl
+
+pub one-honest-pass : ¬ NoncircularNoneAlways onePass
+one-honest-pass demand = some-B (demand tableB 3 2 noncircular-one-pass)
+
+pub invented-count : (v : Version) → PassesFollowed v → (n : ℕ) → ¬ AlwaysCounts n v
+invented-count v demand n wrong =
+    omega (
+      arith,
+      closures-A,
+      closures-B,
+      ap (λ (o : Outcome). o .report .closures) (demand tableA 10 3),
+      ap (λ (o : Outcome). o .report .closures) (demand tableB 3 2),
+      wrong tableA 10 3,
+      wrong tableB 3 2,
+    )

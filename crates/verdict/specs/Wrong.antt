@@ -1,0 +1,43 @@
+-- Wrong versions of the test, each told by what it always does. Assumes nothing.
+use mathlib.Core.Bool.{cond}
+use mathlib.Core.List.{List, []}
+use mathlib.Core.Path.{_≡_}
+use Prim.Native.Nat.{ℕ, _≤_}
+use lib.Dec.{eqb}
+use Rattle.grammar.specs.Table.{grammarOf}
+use Rattle.grammar.specs.Refusal.{refusal}
+use Rattle.rules.specs.declared.Answer.the-variants.{Noncircular, Circular, Refused, OutOfSteps, OutOfRoom}
+use Rattle.rules.specs.Passes.{outcome, numbered, noRoot, empty, passesFrom}
+use Rattle.rules.specs.Test.{systemOf, byNumber}
+use Rattle.verdict.specs.Demands.{Version, said}
+
+abbrev pub RefusesEvery : Version → Type 0
+RefusesEvery v = (bs : List ℕ) (limit room : ℕ) → (k : ℕ) × (said (v bs limit room) ≡ Refused k)
+
+abbrev pub AlwaysOutOfSteps : Version → Type 0
+AlwaysOutOfSteps v = (bs : List ℕ) (limit room : ℕ) → said (v bs limit room) ≡ OutOfSteps
+
+abbrev pub AlwaysOutOfRoom : Version → Type 0
+AlwaysOutOfRoom v = (bs : List ℕ) (limit room : ℕ) → said (v bs limit room) ≡ OutOfRoom
+
+abbrev pub AlwaysNoncircular : Version → Type 0
+AlwaysNoncircular v = (bs : List ℕ) (limit room : ℕ) → said (v bs limit room) ≡ Noncircular
+
+abbrev pub AlwaysCircular : Version → Type 0
+AlwaysCircular v = (bs : List ℕ) (limit room : ℕ) → (p : ℕ) × (said (v bs limit room) ≡ Circular p)
+
+abbrev pub StoresNothing : List ℕ → ℕ → ℕ → Version → Type 0
+StoresNothing bs limit room v = v bs limit room .entries ≡ []
+
+abbrev pub BeginsOnePass : List ℕ → ℕ → ℕ → Version → Type 0
+BeginsOnePass bs limit room v = v bs limit room .report .passes ≤ 1
+
+-- one honest pass, and then noncircular
+abbrev pub onePass : Version
+onePass bs limit room =
+    cond (eqb (refusal 8 bs) 0) (passesFrom (systemOf 8 (grammarOf bs)) limit room 1 (byNumber (grammarOf bs)) 0 empty)
+    (outcome (numbered (refusal 8 bs)) noRoot empty 0)
+
+-- the count of closures is the invented number n
+abbrev pub AlwaysCounts : ℕ → Version → Type 0
+AlwaysCounts n v = (bs : List ℕ) (limit room : ℕ) → v bs limit room .report .closures ≡ n
