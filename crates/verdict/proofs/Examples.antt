@@ -7,12 +7,26 @@ use lib.ListN.{length, take, set}
 use Rattle.grammar.specs.Table.{grammarOf}
 use Rattle.grammar.specs.Rules.{Breaks}
 use Rattle.trees.specs.Tree.{Tree, node, nil, cons}
+use Rattle.trees.specs.Small.{grammarA, grammarB, grammarC}
 use Rattle.rules.specs.declared.Answer.{Answer}
 use Rattle.rules.specs.declared.Answer.the-variants.{Noncircular, Circular, Refused, OutOfSteps, OutOfRoom}
 use Rattle.rules.specs.Test.{opened}
-use Rattle.rules.specs.Small.{tableA, tableB, tableR}
+use Rattle.rules.specs.Small.{tableA, tableB, tableC, tableR}
 use Rattle.verdict.specs.Demands.{back, answer, NoRuleBroken, TreeOf, HasCircle, shownTree, NoncircularNone, MorePairs, NeverStill, StandsStillLeft}
 use Rattle.verdict.proofs.Demands.{refused-exactly, circular-shown, noncircular-none, steps-exactly, room-exactly, room-counts, never-still, stands-still}
+
+-- ---- the bytes of A, B and C are the grammars that the trees' samples have as records
+pub grammar-A : grammarOf tableA ≡ grammarA
+unfolding opened tableA
+grammar-A = refl
+
+pub grammar-B : grammarOf tableB ≡ grammarB
+unfolding opened tableB
+grammar-B = refl
+
+pub grammar-C : grammarOf tableC ≡ grammarC
+unfolding opened tableC
+grammar-C = refl
 
 -- a table that gets a verdict breaks no rule
 when-noncircular : (bs : List ℕ) (limit room : ℕ) → answer bs limit room ≡ Noncircular → NoRuleBroken bs
