@@ -1,4 +1,4 @@
--- The small grammars of document 01 as records, and a tree of A and B. Assumes nothing.
+-- The small grammars as records, and a tree of A and B. Assumes nothing.
 use mathlib.Core.List.{List, [], _∷_}
 use Prim.Native.Nat.{ℕ}
 use lib.ListN.{replicate}

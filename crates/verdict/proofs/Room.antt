@@ -1,4 +1,4 @@
--- 01's claim on room: out of room exactly if the trees have more pairs of root symbol and graph than the room; else the entries are those
+-- The claim on room: out of room exactly if the trees have more pairs of root symbol and graph than the room; else the entries are those
 -- pairs, each once. For a sound outcome of a grammar none of whose trees has a circle. Assumes nothing.
 use mathlib.Core.Path.{_≡_, refl, sym, ap, _∙_, subst}
 use mathlib.Core.List.{List, [], _∷_, List·Memᴰ, List·Memᴰ·head, List·Memᴰ·tail, Memᴰ·cast, Memᴰ·map, Memᴰ·of-map, List·Memᴰ·cases-cons}
