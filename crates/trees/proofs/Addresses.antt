@@ -1,24 +1,11 @@
--- An attribute of a node is an address with an attribute; the attribute graph is the edges of all productions, each at its own node.
--- Assumes nothing.
+-- The attribute graph is the edges of all productions, each at its own node. Assumes nothing.
 use mathlib.Core.List.{List, [], _∷_}
 use mathlib.Core.Logic.{_↔_}
-use mathlib.Core.Path.{_≡_, refl, ap, sym, subst₂}
+use mathlib.Core.Path.{refl, ap, sym, subst₂}
 use Prim.Native.Nat.{ℕ, zero, suc}
 use Rattle.grammar.specs.Grammar.{Grammar}
-use Rattle.trees.specs.Tree.{Tree, node, Kids, nil, cons, Instance, here, under, Joined, TreeEdge, KidEdge}
-use Rattle.trees.specs.Address.{address, attribute, inside, Kid, first, later, Subtree, whole, down, AtNode}
-
-pub there-and-back : (x : Instance) → inside (address x) (here (attribute x)) ≡ x
-there-and-back (here a) = refl
-there-and-back (under i x) = ap (under i) (there-and-back x)
-
-pub address-inside : (d : List ℕ) (a : ℕ) → address (inside d (here a)) ≡ d
-address-inside [] a = refl
-address-inside (i ∷ d) a = ap (λ (e : List ℕ). i ∷ e) (address-inside d a)
-
-pub attribute-inside : (d : List ℕ) (a : ℕ) → attribute (inside d (here a)) ≡ a
-attribute-inside [] a = refl
-attribute-inside (i ∷ d) a = attribute-inside d a
+use Rattle.trees.specs.Tree.{Tree, node, Kids, nil, cons, Instance, under, Joined, TreeEdge, KidEdge}
+use Rattle.trees.specs.Address.{inside, Kid, first, later, Subtree, whole, down, AtNode}
 
 module _ (g : Grammar) where
   kid-edge : {ks : Kids} {i : ℕ} {t : Tree} → Kid ks i t → (x y : Instance) → TreeEdge g t x y → KidEdge g ks i x y

@@ -1,13 +1,12 @@
 -- The composition: paths and circles of a tree are those of its root's compound graph over its subtrees' root graphs. Assumes nothing.
-use mathlib.Core.Logic.{_⊎_, inl, inr, ⊎-map, _↔_}
+use mathlib.Core.Logic.{_⊎_, inl, inr, _↔_}
 use mathlib.Core.Path.{sym, subst}
 use Prim.Native.Nat.{ℕ, zero, suc}
 use Rattle.numbers.specs.Paths.{Plus, one, snoc, Circle}
 use Rattle.grammar.specs.Grammar.{Grammar}
-use Rattle.trees.specs.Tree.{Tree, node, Kids, nil, cons, Instance, here, under, at, Own, Joined, TreeEdge, KidEdge, RootGraph}
-use Rattle.trees.specs.Address.{Kid, first, later}
+use Rattle.trees.specs.Tree.{node, Kids, Instance, here, under, at, Own, Joined, TreeEdge, KidEdge, RootGraph}
 use Rattle.trees.specs.Compound.{Compound, OverKids}
-use Rattle.trees.proofs.Paths.{Star, stay, go, star-plus, star-star, first-edge, image}
+use Rattle.trees.proofs.Paths.{Star, stay, go, star-plus, star-star, image}
 
 -- an attribute of an occurrence of the root's production
 data Occurs : Instance → Type 0 where
@@ -124,24 +123,3 @@ module _ (g : Grammar) (p : ℕ) (ks : Kids) where
 
   pub circle-below : Circle (TreeEdge g (node p ks)) ↔ (Circle (OverKids g p ks) ⊎ ((i : ℕ) × Circle (KidEdge g ks i)))
   circle-below = circles (Own g p) (KidEdge g ks) (own-occurs g p)
-
--- ---- the subtrees as trees
-
-module _ (g : Grammar) where
-  pub to-kid : {ks : Kids} {i : ℕ} {t : Tree} → Kid ks i t → Circle (TreeEdge g t) → Circle (KidEdge g ks i)
-  to-kid first c = c
-  to-kid (later k) c = to-kid k c
-
-  of-kid : (ks : Kids) (i : ℕ) → Circle (KidEdge g ks i) → (i : ℕ) × (t : Tree) × Kid ks i t × Circle (TreeEdge g t)
-  of-kid nil i c = absurd (first-edge (c .1) .1)
-  of-kid (cons t ks) zero c = (0, t, first, c)
-  of-kid (cons t ks) (suc i) c = let r = of-kid ks i c in (suc (r .0), r .1, later (r .2), r .3)
-
-  -- a tree has a circle exactly if its root's compound graph has one or a subtree has one
-  pub tree-circles :
-      (p : ℕ) (ks : Kids)
-      → Circle (TreeEdge g (node p ks)) ↔ (Circle (OverKids g p ks) ⊎ ((i : ℕ) × (t : Tree) × Kid ks i t × Circle (TreeEdge g t)))
-  tree-circles p ks = (
-    λ c. ⊎-map (λ r. r) (λ k. of-kid ks (k .0) (k .1)) (circle-below g p ks .0 c),
-    λ c. circle-below g p ks .1 (⊎-map (λ r. r) (λ k. (k .0, to-kid (k .2) (k .3))) c),
-  )

@@ -115,13 +115,3 @@ module _ (g : Grammar) (valid : Valid g) (Part : ℕ → Type 0) (t : Tree) (com
   left-over r x p =
       let e = first-edge p in
       (source-there g valid Part t complete x (e .0) (e .1), blocked same (TreeEdge g t) (instances g t) not-given r x p)
-
-  -- so each evaluator stands still with a value left over
-  pub stands-still :
-      Circle (TreeEdge g t) → Evaluator g t
-      → (n : ℕ) × (d : State Instance) × Reached g t n d × StandsStill g t d
-      × ((y : Instance) × List·Memᴰ y (instances g t) × (d y ≡ false))
-  stands-still (x, p) f =
-      let s = stood g t f in
-      let l = left-over (s .2) x p in
-      (s .0, s .1, s .2, s .3, (x, l .0, l .1))

@@ -1,11 +1,10 @@
 -- Graphs as numbers: they are told apart by their pairs, and the compound graph has the same paths and circles over numbers.
 -- Assumes nothing.
 use mathlib.Core.List.{List, [], _∷_, List·Memᴰ}
-use mathlib.Core.Logic.{_⊎_, inl, inr, _↔_}
+use mathlib.Core.Logic.{_↔_}
 use mathlib.Core.Path.{_≡_, refl, sym, _∙_, ap, ap₂, subst₂}
 use Prim.Native.Nat.{ℕ, zero, suc, _+_, _*_, _/_, _%_, _^_, _≤_, _<_}
-use native.Mathlib.Nat.{add-zero, pow-succ', div-one, div-div-eq-div-mul, div-lt-iff-lt-mul, mul-add-div, mul-add-mod-self-left, div-eq-of-lt, mod-eq-of-lt, mod-lt, div-add-mod, mul-le-mul-left}
-use native.Mathlib.Decide.{ℕ-discrete}
+use native.Mathlib.Nat.{add-zero, div-lt-iff-lt-mul, mul-add-div, mul-add-mod-self-left, div-eq-of-lt, mod-eq-of-lt, mod-lt, div-add-mod}
 use native.Mathlib.Omega.{arith}
 use lib.ListN.{length, getD}
 use Rattle.numbers.specs.Number.{bit}
@@ -61,10 +60,6 @@ place-at w o a h =
     let pos : 0 < w = omega arith in
     let d : (w * o + a) / w ≡ o = mul-add-div pos o a ∙ ap (λ (n : ℕ). o + n) (div-eq-of-lt h) ∙ add-zero o in
     ap₂ at d (mul-add-mod-self-left w o a ∙ mod-eq-of-lt h)
-
--- the number of a node of a production with n right symbols
-pub number-below : (w n o a : ℕ) → o ≤ n → a < w → w * o + a < w * suc n
-number-below w n o a h l = let m : w * o ≤ w * n = mul-le-mul-left w h in omega (arith, m)
 
 attribute-at : (o a : ℕ) → attribute (at o a) ≡ a
 attribute-at zero a = refl
@@ -177,16 +172,3 @@ module _ (w : ℕ) (g : Grammar) (valid : Valid g) (few : AtMost w g) (p : ℕ) 
           let ha = edge-below (here a) (s .0) (s .1) .0 in
           let hb = edge-below (e .0) (here b) (e .1) .1 in
           record { from = ha; to = hb; worth = f a b ha hb .1 (rw (z a, z b) at (numbered-paths 0 a 0 b ha hb .0 r)) }
-
-  -- its nodes, where there is a graph for each right symbol
-  pub numbered-below :
-      length graphs ≡ production g p .n
-      → (n m : ℕ) → Numbered w g p graphs n m → (n < w * suc (length graphs)) × (m < w * suc (length graphs))
-  numbered-below c n m (Numbered.own e i h u v) =
-      let s = rw h at (valid .edges e i .source .occurrence) in
-      let t = rw h at (valid .edges e i .target .occurrence) in (
-        rw (u, c) (number-below w (production g p .n) (e .source .occurrence) (e .source .attribute) s (source-below e i)),
-        rw (v, c) (number-below w (production g p .n) (e .target .occurrence) (e .target .attribute) t (target-below e i)),
-      )
-  numbered-below c n m (Numbered.pair k a b l ha hb q u v) =
-      (rw u (number-below w (length graphs) (suc k) a l ha), rw v (number-below w (length graphs) (suc k) b l hb))

@@ -8,7 +8,7 @@ use native.Mathlib.Omega.{arith}
 use lib.ListN.{length, length-map}
 use Rattle.numbers.specs.Paths.{Circle}
 use Rattle.grammar.specs.Grammar.{Grammar, production, rights}
-use Rattle.trees.specs.Tree.{Tree, node, cons, Complete, OneEach, TreeEdge, Circular, Valid}
+use Rattle.trees.specs.Tree.{Tree, node, cons, Complete, OneEach, TreeEdge, Valid}
 use Rattle.trees.specs.Compound.{OverGraphs, Makes, AreGraphs}
 use Rattle.trees.specs.Record.{Entry, row, levels, shownEntry, shown, Fits, graphs, Derived, Shows}
 use Rattle.trees.proofs.Lists.{at-cons}
@@ -101,9 +101,6 @@ module _ (g : Grammar) {Graph : Type 0} (Holds : Graph → ℕ → ℕ → Type 
       -- a circle of the root's compound graph over its entries' graphs is in the shown tree
       pub shown-circle : Circle (OverGraphs g Holds p (graphs entry ks)) → Circle (TreeEdge g (shown entry p ks))
       shown-circle = node-circle (shownEntry entry) count entry-shown p ks part fits
-
-      pub shown-circular : Circle (OverGraphs g Holds p (graphs entry ks)) → Circular g Part
-      shown-circular c = (shown entry p ks, shown-complete, shown-circle c)
 
     -- ---- the shown tree of an entry is its production over the shown trees of its entry numbers
 

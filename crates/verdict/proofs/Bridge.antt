@@ -4,16 +4,16 @@ use mathlib.Core.Path.{_≡_, refl, sym, ap, _∙_}
 use mathlib.Core.Bool.{Bool, true, false, cond, true≢false}
 use mathlib.Core.List.{List, [], _∷_, List·Memᴰ, List·Memᴰ·head, List·Memᴰ·tail, List·Memᴰ·cases-cons, List·Memᴰ·not-nil}
 use mathlib.Core.Logic.{_⊎_, inl, inr, ⊎-elim, _↔_}
-use Prim.Native.Nat.{ℕ, suc, _+_, _*_, _≤_, _<_}
+use Prim.Native.Nat.{ℕ}
 use native.Mathlib.Numerals.{one-add}
 use lib.Dec.{eqb}
 use lib.ListN.{length}
 use borrow.Author.Tests.{eqb-true, eq-eqb}
 use Rattle.numbers.specs.Lists.{keep}
-use Rattle.numbers.specs.Paths.{Plus, Circle}
+use Rattle.numbers.specs.Paths.{Circle}
 use Rattle.grammar.specs.declared.Edge.{Edge}
 use Rattle.grammar.specs.Grammar.{Grammar, production, edgesOf}
-use Rattle.graph.specs.Compound.{EdgesWithin, OwnEdge, SubtreePair, CompoundEdge}
+use Rattle.graph.specs.Compound.{EdgesWithin, CompoundEdge}
 use Rattle.graph.proofs.Compound.{compound-circle, compound-root}
 use Rattle.trees.specs.Tree.{Valid, AtMost}
 use Rattle.trees.specs.Compound.{OverGraphs, Makes, NumberHolds}

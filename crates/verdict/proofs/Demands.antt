@@ -1,25 +1,21 @@
 -- The demands, proved. Assumes nothing.
 use mathlib.Core.Path.{_≡_, refl, sym, ap, _∙_, subst, subst₂}
-use mathlib.Core.Bool.{Bool, true, false, cond}
-use mathlib.Core.List.{List, [], _∷_, List·Memᴰ}
-use mathlib.Core.Logic.{_⊎_, inl, inr, _↔_}
-use Prim.Native.Nat.{ℕ, zero, suc, _+_, _*_, _^_, _≤_, _<_}
+use mathlib.Core.Bool.{Bool, cond}
+use mathlib.Core.List.{List}
+use mathlib.Core.Logic.{_⊎_, inl, inr}
+use Prim.Native.Nat.{ℕ, zero, suc, _^_, _<_}
 use native.Mathlib.Omega.{arith}
-use native.Mathlib.Decide.{decLt, ℕ-discrete}
 use lib.Dec.{eqb, eqb·suc-zero}
 use lib.ListN.{length, take, length-append, length-replicate, length-take}
-use Rattle.numbers.specs.Paths.{Circle}
-use Rattle.grammar.specs.Grammar.{Grammar, production, rights}
+use Rattle.grammar.specs.Grammar.{production, rights}
 use Rattle.grammar.specs.Table.{grammarOf}
 use Rattle.grammar.specs.Rules.{Breaks}
 use Rattle.grammar.specs.Refusal.{refusal}
 use Rattle.grammar.proofs.Refused as rules-shown
-use Rattle.trees.specs.Lists.{Distinct}
-use Rattle.trees.specs.Tree.{Tree, Instance, InTable, TreeEdge, instances, Valid, AtMost}
+use Rattle.trees.specs.Tree.{InTable}
 use Rattle.trees.specs.Compound.{NumberHolds}
-use Rattle.trees.specs.Evaluator.{State, left, given, Reached}
 use Rattle.trees.specs.Record as record-of-trees
-use Rattle.trees.specs.Record.{pairs, OfTree}
+use Rattle.trees.specs.Record.{OfTree}
 use Rattle.trees.proofs.Saturation.{none-circular}
 use Rattle.trees.proofs.Evaluators as evaluators
 use Rattle.rules.specs.declared.Answer.{Answer}
@@ -120,14 +116,7 @@ module _ (bs : List ℕ) where
         subst (runs.Sound (systemOf 8 (grammarOf bs)) (In (byNumber (grammarOf bs))) limit room) (sym (taken good limit room))
         (runs-shown.outcome-sound (systemOf 8 (grammarOf bs)) (byNumber (grammarOf bs)) limit room)
 
-  -- limit and count are kept, also by a refusal
-  pub closures-within : (limit room : ℕ) → back bs limit room .report .closures ≤ limit
-  closures-within limit room = go either
-    where
-      go : (refusal 8 bs ≡ 0) ⊎ ((k : ℕ) × Breaks 8 bs k) → back bs limit room .report .closures ≤ limit
-      go (inl e) = sound e limit room .closures
-      go (inr (k, b)) = omega (arith, ap (λ (o : Outcome). o .report .closures) (refused k b limit room))
-
+  -- the count of entries is kept, also by a refusal
   pub counted-entries : (limit room : ℕ) → back bs limit room .report .entries ≡ length (back bs limit room .entries)
   counted-entries limit room = go either
     where

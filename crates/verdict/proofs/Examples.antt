@@ -1,14 +1,13 @@
 -- Each demand at A, B and R: what it asks can be met. Assumes nothing.
-use mathlib.Core.Path.{_≡_, refl, ap, sym, _∙_}
-use mathlib.Core.List.{List, [], _∷_}
-use Prim.Native.Nat.{ℕ, _≤_, _<_}
+use mathlib.Core.Path.{_≡_, refl}
+use mathlib.Core.List.{List}
+use Prim.Native.Nat.{ℕ}
 use native.Mathlib.Omega.{arith}
 use lib.ListN.{length, take, set}
 use Rattle.grammar.specs.Table.{grammarOf}
 use Rattle.grammar.specs.Rules.{Breaks}
-use Rattle.trees.specs.Tree.{Tree, node, nil, cons}
+use Rattle.trees.specs.Tree.{node, nil, cons}
 use Rattle.trees.specs.Small.{grammarA, grammarB, grammarC}
-use Rattle.rules.specs.declared.Answer.{Answer}
 use Rattle.rules.specs.declared.Answer.the-variants.{Noncircular, Circular, Refused, OutOfSteps, OutOfRoom}
 use Rattle.rules.specs.Test.{opened}
 use Rattle.rules.specs.Small.{tableA, tableB, tableC, tableR}

@@ -2,6 +2,9 @@
 pub use Rattle.rules.proofs.Cases.{K, entries-A, whole-B, waits, fastest}
 pub use Rattle.rules.proofs.Borders.{borders}
 pub use Rattle.orders.proofs.Answers.{fuel-suffices, turns-stay}
+-- the edges of a tree are those of its productions, each at its own node; its values are the attributes of its nodes, each once
+pub use Rattle.trees.proofs.Addresses.{each-at-its-node}
+pub use Rattle.trees.proofs.Exactly.{exactly, once}
 pub mod Bridge
 pub mod Obeys
 pub mod Trees

@@ -1,9 +1,9 @@
 -- The promise of the test carries the demands: nothing is left between the program's result and them. Assumes nothing.
 use mathlib.Core.Path.{_≡_, refl, sym, ap, _∙_, subst}
 use mathlib.Core.List.{List, [], _∷_, _++_, map, append-assoc}
-use Prim.Native.Nat.{ℕ, zero, suc, _+_, _*_, _≤_, _<_}
+use Prim.Native.Nat.{ℕ, zero, suc, _+_, _*_, _<_}
 use native.Mathlib.Omega.{arith}
-use lib.ListN.{length, getD, take, drop, length-append, length-map}
+use lib.ListN.{length, take, drop, length-append, length-map}
 use lib.Seq.{ext-getD, take-at, drop-at, drop-append-add}
 use Rattle.numbers.specs.Lists.{written}
 use Rattle.rules.specs.declared.Report.{Report}

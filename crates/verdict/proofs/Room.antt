@@ -1,15 +1,15 @@
 -- The claim on room: out of room exactly if the trees have more pairs of root symbol and graph than the room; else the entries are those
 -- pairs, each once. For a sound outcome of a grammar none of whose trees has a circle. Assumes nothing.
-use mathlib.Core.Path.{_≡_, refl, sym, ap, _∙_, subst}
-use mathlib.Core.List.{List, [], _∷_, List·Memᴰ, List·Memᴰ·head, List·Memᴰ·tail, Memᴰ·cast, Memᴰ·map, Memᴰ·of-map, List·Memᴰ·cases-cons}
-use mathlib.Core.Logic.{_⊎_, inl, inr, ⊎-elim, _↔_}
-use Prim.Native.Nat.{ℕ, suc, _*_, _^_, _≤_, _<_}
+use mathlib.Core.Path.{_≡_, sym, ap, _∙_, subst}
+use mathlib.Core.List.{List, _∷_, List·Memᴰ, Memᴰ·cast, Memᴰ·map, Memᴰ·of-map, List·Memᴰ·cases-cons}
+use mathlib.Core.Logic.{⊎-elim}
+use Prim.Native.Nat.{ℕ, _*_, _^_, _≤_, _<_}
 use native.Mathlib.Omega.{arith}
 use lib.ListN.{length}
 use Rattle.numbers.specs.Lists.{upFrom}
 use Rattle.grammar.specs.Grammar.{Grammar}
 use Rattle.trees.specs.Lists.{Distinct}
-use Rattle.trees.specs.Tree.{Tree, InTable, Valid, AtMost}
+use Rattle.trees.specs.Tree.{InTable, Valid, AtMost}
 use Rattle.trees.specs.Compound.{NumberHolds}
 use Rattle.trees.specs.Record as record-of-trees
 use Rattle.trees.specs.Record.{pairs, OfTree}

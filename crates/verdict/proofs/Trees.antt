@@ -1,18 +1,16 @@
 -- From what the passes store to trees: each entry is derived, a circular root has a circle, a saturated store has every tree. Over the
 -- number w of attributes, for any outcome that is sound. Assumes nothing.
-use mathlib.Core.Path.{_≡_, refl, sym, ap, _∙_, subst}
-use mathlib.Core.Bool.{Bool, true, false, true≢false}
+use mathlib.Core.Path.{_≡_, sym, _∙_, subst}
+use mathlib.Core.Bool.{true≢false}
 use mathlib.Core.List.{List, [], _∷_, List·Memᴰ}
-use mathlib.Core.Logic.{_⊎_, inl, inr, _↔_}
-use Prim.Native.Nat.{ℕ, _+_, _*_, _^_, _≤_, _<_}
+use Prim.Native.Nat.{ℕ, _*_, _^_, _<_}
 use native.Mathlib.Omega.{arith}
 use lib.ListN.{length}
-use Rattle.numbers.specs.Lists.{upFrom}
 use Rattle.numbers.specs.Paths.{Circle}
 use Rattle.grammar.specs.Grammar.{Grammar, production, rights}
 use Rattle.graph.proofs.Root.{root-lt}
-use Rattle.trees.specs.Tree.{Complete, InTable, TreeEdge, Circular, Valid, AtMost}
-use Rattle.trees.specs.Compound.{OverGraphs, Makes, NumberHolds}
+use Rattle.trees.specs.Tree.{Complete, InTable, TreeEdge, Valid, AtMost}
+use Rattle.trees.specs.Compound.{Makes, NumberHolds}
 use Rattle.trees.specs.Record as record-of-trees
 use Rattle.trees.specs.Record.{shownEntry, shown, Derived, Shows, OfTree}
 use Rattle.trees.proofs.Lists.{of-upFrom, upFrom-holds}
@@ -20,7 +18,7 @@ use Rattle.trees.proofs.Shown.{fits-below, graphs-count, shown-complete, shown-
 use Rattle.rules.specs.declared.Entry.{Entry}
 use Rattle.rules.specs.Passes.{System, entry, graphs}
 use Rattle.rules.specs.Test.{closed, systemOf, byNumber}
-use Rattle.orders.specs.Stored.{In, Combination, counting, Made, Root, Holds, Saturated}
+use Rattle.orders.specs.Stored.{In, Combination, Made, Root, Saturated}
 use Rattle.verdict.specs.Demands.{kidsOf, told}
 use Rattle.verdict.proofs.Bridge.{circle-so, graph-so}
 

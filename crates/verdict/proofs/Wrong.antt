@@ -1,11 +1,10 @@
 -- Each wrong version falls to the demand that it fails, whatever else it does. Assumes nothing.
 use mathlib.Core.Path.{_≡_, refl, sym, ap, _∙_}
-use mathlib.Core.Bool.{true, false, true≢false}
-use mathlib.Core.List.{List, []}
-use Prim.Native.Nat.{ℕ, _≤_, _<_}
+use mathlib.Core.Bool.{true≢false}
+use Prim.Native.Nat.{ℕ}
 use native.Mathlib.Omega.{arith}
 use lib.ListN.{length}
-use Rattle.rules.specs.declared.Answer.the-variants.{Noncircular, OutOfSteps, OutOfRoom}
+use Rattle.rules.specs.declared.Answer.the-variants.{Noncircular}
 use Rattle.rules.specs.Passes.{Outcome}
 use Rattle.rules.specs.Test.{opened}
 use Rattle.rules.specs.Small.{tableA, tableB}
