@@ -27,7 +27,7 @@ pub grammar-C : grammarOf tableC ≡ grammarC
 unfolding opened tableC
 grammar-C = refl
 
--- a table that gets a verdict breaks no rule
+-- a table that is called noncircular breaks no rule
 when-noncircular : (bs : List ℕ) (limit room : ℕ) → answer bs limit room ≡ Noncircular → NoRuleBroken bs
 when-noncircular bs limit room h k b =
     let r = refused-exactly bs limit room k .exactly .1 b in

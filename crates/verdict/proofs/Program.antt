@@ -75,10 +75,18 @@ module _ (bs : List ℕ) (limit : ℕ) (σ : Slices) (r : Report) (τ : Slices) 
 
   rest : RestBefore (r .entries) σ τ
   rest = record {
-    symbols = behind (map (λ e. e .symbol) es) (σ .symbols) (τ .symbols) (r .entries) (promised .symbols) (length-map es (λ e. e .symbol) ∙ count);
-    graphs = behind (map (λ e. e .graph) es) (σ .graphs) (τ .graphs) (r .entries) (promised .graphs) (length-map es (λ e. e .graph) ∙ count);
-    productions = behind (map (λ e. e .production) es) (σ .productions) (τ .productions) (r .entries) (promised .productions) (length-map es (λ e. e .production) ∙ count);
-    kids = behind (kidsOf es) (σ .kids) (τ .kids) (7 * r .entries) (promised .kids) (length-kids es (seven-kids bs limit R) ∙ ap (λ (n : ℕ). 7 * n) count);
+    symbols =
+        behind (map (λ e. e .symbol) es) (σ .symbols) (τ .symbols) (r .entries) (promised .symbols)
+        (length-map es (λ e. e .symbol) ∙ count);
+    graphs =
+        behind (map (λ e. e .graph) es) (σ .graphs) (τ .graphs) (r .entries) (promised .graphs)
+        (length-map es (λ e. e .graph) ∙ count);
+    productions =
+        behind (map (λ e. e .production) es) (σ .productions) (τ .productions) (r .entries) (promised .productions)
+        (length-map es (λ e. e .production) ∙ count);
+    kids =
+        behind (kidsOf es) (σ .kids) (τ .kids) (7 * r .entries) (promised .kids)
+        (length-kids es (seven-kids bs limit R) ∙ ap (λ (n : ℕ). 7 * n) count);
   }
 
   whole : readOut r τ ≡ back bs limit (roomOf σ)
@@ -130,5 +138,6 @@ pub program-of-records : RowAlways
 program-of-records bs limit R r before after report row =
     let es = back bs limit R .entries in
     let n : length es ≡ r .entries = sym (ap (λ (x : Report). x .entries) report ∙ counted-entries bs limit R) in
-    let front : take (r .entries) after ≡ back bs limit R .entries = ap (take (r .entries)) row ∙ take-at es (drop (length es) before) (r .entries) n in
+    let front : take (r .entries) after ≡ back bs limit R .entries =
+    ap (take (r .entries)) row ∙ take-at es (drop (length es) before) (r .entries) n in
     demanded bs limit R _ (λ j. record { report = report j; entries = front j })

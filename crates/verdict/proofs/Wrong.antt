@@ -4,12 +4,13 @@ use mathlib.Core.Bool.{true≢false}
 use Prim.Native.Nat.{ℕ}
 use native.Mathlib.Omega.{arith}
 use lib.ListN.{length}
-use Rattle.rules.specs.declared.Answer.the-variants.{Noncircular}
-use Rattle.rules.specs.Passes.{Outcome}
+use Rattle.rules.specs.declared.Answer.{Answer}
+use Rattle.rules.specs.declared.Answer.the-variants.{Noncircular, Circular, Refused, OutOfSteps, OutOfRoom}
+use Rattle.rules.specs.Passes.{Outcome, outcome, noRoot, empty}
 use Rattle.rules.specs.Test.{opened}
 use Rattle.rules.specs.Small.{tableA, tableB}
 use Rattle.verdict.specs.Demands.{Version, back, said, shownTree, CircularShown, RefusedExactlyAlways, CircularShownAlways, NoncircularNone, NoncircularNoneAlways, StepsExactlyAlways, RoomExactlyAlways, RoomCountsAlways, NeverStill, NeverStillAlways, PassesFollowed}
-use Rattle.verdict.specs.Wrong.{RefusesEvery, AlwaysOutOfSteps, AlwaysOutOfRoom, AlwaysNoncircular, AlwaysCircular, StoresNothing, BeginsOnePass, onePass, AlwaysCounts}
+use Rattle.verdict.specs.Wrong.{RefusesEvery, AlwaysOutOfSteps, AlwaysOutOfRoom, AlwaysNoncircular, AlwaysCircular, StoresNothing, BeginsOnePass, onePass, AlwaysCounts, constantly}
 use Rattle.verdict.proofs.Demands.{circular-shown}
 use Rattle.verdict.proofs.Examples.{unbroken-A, none-A, closures-A, entries-A, not-three, circular-B, still-B, closures-B, entries-B}
 
@@ -114,3 +115,14 @@ invented-count v demand n wrong =
       wrong tableA 10 3,
       wrong tableB 3 2,
     )
+
+-- ---- such versions there are
+abbrev quick : Answer → Outcome
+quick a = outcome a noRoot empty 1
+
+pub there-are :
+    RefusesEvery (constantly (quick (Refused 1))) × AlwaysOutOfSteps (constantly (quick OutOfSteps))
+    × AlwaysOutOfRoom (constantly (quick OutOfRoom)) × AlwaysNoncircular (constantly (quick Noncircular))
+    × AlwaysCircular (constantly (quick (Circular 0))) × AlwaysCounts 0 (constantly (quick Noncircular))
+there-are =
+    (λ bs limit room. (1, refl), λ bs limit room. refl, λ bs limit room. refl, λ bs limit room. refl, λ bs limit room. (0, refl), λ bs limit room. refl)

@@ -7,7 +7,7 @@ use lib.Dec.{eqb}
 use Rattle.grammar.specs.Table.{grammarOf}
 use Rattle.grammar.specs.Refusal.{refusal}
 use Rattle.rules.specs.declared.Answer.the-variants.{Noncircular, Circular, Refused, OutOfSteps, OutOfRoom}
-use Rattle.rules.specs.Passes.{outcome, numbered, noRoot, empty, passesFrom}
+use Rattle.rules.specs.Passes.{Outcome, outcome, numbered, noRoot, empty, passesFrom}
 use Rattle.rules.specs.Test.{systemOf, byNumber}
 use Rattle.verdict.specs.Demands.{Version, said}
 
@@ -41,3 +41,7 @@ onePass bs limit room =
 -- the count of closures is the invented number n
 abbrev pub AlwaysCounts : ℕ → Version → Type 0
 AlwaysCounts n v = (bs : List ℕ) (limit room : ℕ) → v bs limit room .report .closures ≡ n
+
+-- the version that always gives the same
+abbrev pub constantly : Outcome → Version
+constantly o bs limit room = o
