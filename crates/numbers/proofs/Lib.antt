@@ -8,4 +8,5 @@ pub mod Keeping
 pub mod Ordered
 pub mod Bits
 pub mod Ways
+pub mod Reading
 pub mod OneReading

@@ -1,16 +1,18 @@
--- Two results that meet the promise of a public function are equal. Assumes nothing.
-use mathlib.Core.Path.{_≡_, sym, _∙_}
-use mathlib.Core.List.{List}
-use Prim.Native.Nat.{ℕ}
-use lib.ListN.{getD}
-use Rattle.numbers.specs.Number.{le2, le4}
+-- The promise of each public function has one reading. Assumes nothing.
+use mathlib.Core.Path.{sym, _∙_}
+use Rattle.numbers.proofs.Reading.{OneResult}
+use Rattle.numbers.proofs.byte_at.Kinds as byte-at-kinds
+use Rattle.numbers.proofs.byte_at.Reads as byte-at-reads
+use Rattle.numbers.proofs.two_at.Kinds as two-at-kinds
+use Rattle.numbers.proofs.two_at.Reads as two-at-reads
+use Rattle.numbers.proofs.four_at.Kinds as four-at-kinds
+use Rattle.numbers.proofs.four_at.Reads as four-at-reads
 
-module _ (bs : List ℕ) (i : ℕ) where
-  pub one-reading-byte-at : (r s : ℕ) → r ≡ getD bs i 0 → s ≡ getD bs i 0 → r ≡ s
-  one-reading-byte-at r s p q = p ∙ sym q
+pub one-reading-byte-at : OneResult 1 byte-at-kinds.ps byte-at-kinds.r byte-at-reads.Post
+one-reading-byte-at κs a x y s t p q = p ∙ sym q
 
-  pub one-reading-two-at : (r s : ℕ) → r ≡ le2 bs i → s ≡ le2 bs i → r ≡ s
-  one-reading-two-at r s p q = p ∙ sym q
+pub one-reading-two-at : OneResult 1 two-at-kinds.ps two-at-kinds.r two-at-reads.Post
+one-reading-two-at κs a x y s t p q = p ∙ sym q
 
-  pub one-reading-four-at : (r s : ℕ) → r ≡ le4 bs i → s ≡ le4 bs i → r ≡ s
-  one-reading-four-at r s p q = p ∙ sym q
+pub one-reading-four-at : OneResult 1 four-at-kinds.ps four-at-kinds.r four-at-reads.Post
+one-reading-four-at κs a x y s t p q = p ∙ sym q
