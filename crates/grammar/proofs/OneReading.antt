@@ -1,36 +1,36 @@
--- Two results that meet the promise of a public function are equal. Assumes nothing.
-use mathlib.Core.Path.{_≡_, sym, _∙_}
-use mathlib.Core.List.{List}
-use Prim.Native.Nat.{ℕ, _*_}
-use Rattle.grammar.specs.declared.Symbol.{Symbol}
-use Rattle.grammar.specs.declared.Production.{Production}
-use Rattle.grammar.specs.declared.Edge.{Edge}
-use Rattle.grammar.specs.declared.Header.{Header}
-use Rattle.grammar.specs.declared.Checked.{Checked}
-use Rattle.grammar.specs.Grammar.{symbol, production}
-use Rattle.grammar.specs.Table.{edgeIn, grammarOf}
-use Rattle.grammar.specs.Refusal.{refusal}
-use Rattle.grammar.specs.Reading.{checked, headerOf, runOf}
+-- The promise of each public function has one reading. Assumes nothing.
+use mathlib.Core.Path.{sym, _∙_}
+use denote.Ref.{now}
+-- passed on to the crates that use this one and not `numbers`
+pub use Rattle.numbers.proofs.Reading.{OneOutcome, OneResult}
+use Rattle.grammar.proofs.check.Kinds as check-kinds
+use Rattle.grammar.proofs.check.Reads as check-reads
+use Rattle.grammar.proofs.header_of.Kinds as header-of-kinds
+use Rattle.grammar.proofs.header_of.Reads as header-of-reads
+use Rattle.grammar.proofs.symbol_of.Kinds as symbol-of-kinds
+use Rattle.grammar.proofs.symbol_of.Reads as symbol-of-reads
+use Rattle.grammar.proofs.production_of.Kinds as production-of-kinds
+use Rattle.grammar.proofs.production_of.Reads as production-of-reads
+use Rattle.grammar.proofs.edge_of.Kinds as edge-of-kinds
+use Rattle.grammar.proofs.edge_of.Reads as edge-of-reads
+use Rattle.grammar.proofs.run_of.Kinds as run-of-kinds
+use Rattle.grammar.proofs.run_of.Reads as run-of-reads
 
--- `bs` are the bytes of the table, or of the run
-module _ (bs : List ℕ) where
-  pub one-reading-check : (r s : Checked) → r ≡ checked (refusal 8 bs) → s ≡ checked (refusal 8 bs) → r ≡ s
-  one-reading-check r s p q = p ∙ sym q
+pub one-reading-check : OneResult 1 check-kinds.ps check-kinds.r check-reads.Post
+one-reading-check κs a x y s t p q = p ∙ sym q
 
-  pub one-reading-header-of : (r s : Header) → r ≡ headerOf bs → s ≡ headerOf bs → r ≡ s
-  one-reading-header-of r s p q = p ∙ sym q
+pub one-reading-header-of : OneResult 1 header-of-kinds.ps header-of-kinds.r header-of-reads.Post
+one-reading-header-of κs a x y s t p q = p ∙ sym q
 
-  module _ (i : ℕ) where
-    pub one-reading-symbol-of : (r s : Symbol) → r ≡ symbol (grammarOf bs) i → s ≡ symbol (grammarOf bs) i → r ≡ s
-    one-reading-symbol-of r s p q = p ∙ sym q
+pub one-reading-symbol-of : OneResult 1 symbol-of-kinds.ps symbol-of-kinds.r symbol-of-reads.Post
+one-reading-symbol-of κs a x y s t p q = p ∙ sym q
 
-    pub one-reading-production-of :
-        (r s : Production) → r ≡ production (grammarOf bs) i → s ≡ production (grammarOf bs) i → r ≡ s
-    one-reading-production-of r s p q = p ∙ sym q
+pub one-reading-production-of : OneResult 1 production-of-kinds.ps production-of-kinds.r production-of-reads.Post
+one-reading-production-of κs a x y s t p q = p ∙ sym q
 
-    pub one-reading-edge-of : (r s : Edge) → r ≡ edgeIn bs (6 * i) → s ≡ edgeIn bs (6 * i) → r ≡ s
-    one-reading-edge-of r s p q = p ∙ sym q
+pub one-reading-edge-of : OneResult 1 edge-of-kinds.ps edge-of-kinds.r edge-of-reads.Post
+one-reading-edge-of κs a x y s t p q = p ∙ sym q
 
-    -- the bytes of the part that is handed out
-    pub one-reading-run-of : (r s : List ℕ) → r ≡ runOf bs i → s ≡ runOf bs i → r ≡ s
-    one-reading-run-of r s p q = p ∙ sym q
+-- the bytes of the part that is handed out
+pub one-reading-run-of : OneOutcome 1 run-of-kinds.ps run-of-kinds.r run-of-reads.Post (λ κs r s. now r)
+one-reading-run-of κs a x y s t p q = p ∙ sym q
