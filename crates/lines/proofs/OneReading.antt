@@ -1,32 +1,29 @@
--- The promise of each public function has one reading: two buffers and two results that meet it are the same. Assumes nothing.
+-- The promise of each public function has one reading: the buffer afterwards, and the place that is returned. Assumes nothing.
 use mathlib.Core.Path.{_≡_, sym, _∙_}
 use mathlib.Core.List.{List}
 use Prim.Native.Nat.{ℕ}
-use lib.ListN.{take}
-use Rattle.rules.specs.declared.Report.{Report}
-use Rattle.lines.specs.Lines.{firstLine, entryLine, rootLine, Written}
+use denote.Ref.{now}
+use Rattle.grammar.proofs.OneReading.{OneOutcome}
+use Rattle.lines.specs.Lines.{Written}
+use Rattle.lines.proofs.put_first.Kinds as put-first-kinds
+use Rattle.lines.proofs.put_first.Reads as put-first-reads
+use Rattle.lines.proofs.put_entry.Kinds as put-entry-kinds
+use Rattle.lines.proofs.put_entry.Reads as put-entry-reads
+use Rattle.lines.proofs.put_root.Kinds as put-root-kinds
+use Rattle.lines.proofs.put_root.Reads as put-root-reads
 
-module _ {at : ℕ} {old new new′ : List ℕ} {r r′ : ℕ} where
-  one-reading : {line : List ℕ} → Written line at old new r → Written line at old new′ r′ → (new ≡ new′) × (r ≡ r′)
-  one-reading p q = (p .buffer ∙ sym (q .buffer), p .place ∙ sym (q .place))
+abbrev Back : Type 0
+Back = List ℕ × ℕ
 
-  pub one-reading-first :
-      (report : Report) →
-      Written (firstLine report) at old new r →
-      Written (firstLine report) at old new′ r′ →
-      (new ≡ new′) × (r ≡ r′)
-  one-reading-first report p q = one-reading p q
+written-once : {line old new new′ : List ℕ} {at r r′ : ℕ} → Written line at old new r → Written line at old new′ r′
+    → _≡_ {A = Back} (new, r) (new′, r′)
+written-once p q i = ((p .buffer ∙ sym (q .buffer)) i, (p .place ∙ sym (q .place)) i)
 
-  pub one-reading-entry :
-      (number symbol production : ℕ) (kids : List ℕ) (n graph : ℕ) →
-      Written (entryLine number symbol production (take n kids) graph) at old new r →
-      Written (entryLine number symbol production (take n kids) graph) at old new′ r′ →
-      (new ≡ new′) × (r ≡ r′)
-  one-reading-entry number symbol production kids n graph p q = one-reading p q
+pub one-reading-first : OneOutcome 1 put-first-kinds.ps put-first-kinds.r put-first-reads.Post {W = λ κs. Back} (λ κs r s. (now (s .0), r))
+one-reading-first κs a x y s t p q = written-once p q
 
-  pub one-reading-root :
-      (production : ℕ) (root : List ℕ) (n : ℕ) →
-      Written (rootLine production (take n root)) at old new r →
-      Written (rootLine production (take n root)) at old new′ r′ →
-      (new ≡ new′) × (r ≡ r′)
-  one-reading-root production root n p q = one-reading p q
+pub one-reading-entry : OneOutcome 1 put-entry-kinds.ps put-entry-kinds.r put-entry-reads.Post {W = λ κs. Back} (λ κs r s. (now (s .0), r))
+one-reading-entry κs a x y s t p q = written-once p q
+
+pub one-reading-root : OneOutcome 1 put-root-kinds.ps put-root-kinds.r put-root-reads.Post {W = λ κs. Back} (λ κs r s. (now (s .0), r))
+one-reading-root κs a x y s t p q = written-once p q
