@@ -1,47 +1,57 @@
--- Two results that meet the promise of an exported function are equal. Assumes nothing.
-use mathlib.Core.Bool.{Bool}
+-- The promise of each exported function has one reading. Assumes nothing.
 use mathlib.Core.List.{List}
-use mathlib.Core.Path.{_≡_, sym, ap, _∙_}
-use Prim.Native.Nat.{ℕ, _*_}
-use lib.ListN.{take, replicate}
-use Rattle.grammar.specs.Table.{edgesIn}
-use Rattle.grammar.specs.Refusal.{refusal}
-use Rattle.graph.specs.Rows.{own, placed, closedFirst, hasCircle, rootGraph}
+use mathlib.Core.Path.{sym, ap, _∙_}
+use Prim.Native.Nat.{ℕ}
+use denote.Ref.{now}
+use Rattle.numbers.proofs.Reading.{OneOutcome, OneResult}
 use Rattle.passes.specs.Slices.{Slices, slices}
-use Rattle.foreign.specs.Flat.{flat, TestedFlat}
+use Rattle.foreign.specs.Flat.{flat}
+use Rattle.foreign.proofs.circ_check.Kinds as check-kinds
+use Rattle.foreign.proofs.circ_check.Reads as check-reads
+use Rattle.foreign.proofs.circ_test.Kinds as test-kinds
+use Rattle.foreign.proofs.circ_test.Reads as test-reads
+use Rattle.foreign.proofs.circ_own_rows.Kinds as own-rows-kinds
+use Rattle.foreign.proofs.circ_own_rows.Reads as own-rows-reads
+use Rattle.foreign.proofs.circ_place.Kinds as place-kinds
+use Rattle.foreign.proofs.circ_place.Reads as place-reads
+use Rattle.foreign.proofs.circ_close.Kinds as close-kinds
+use Rattle.foreign.proofs.circ_close.Reads as close-reads
+use Rattle.foreign.proofs.circ_has_circle.Kinds as has-circle-kinds
+use Rattle.foreign.proofs.circ_has_circle.Reads as has-circle-reads
+use Rattle.foreign.proofs.circ_root_graph.Kinds as root-graph-kinds
+use Rattle.foreign.proofs.circ_root_graph.Reads as root-graph-reads
 
-pub one-reading-circ-check : (bs : List ℕ) (r s : ℕ) → r ≡ refusal 8 bs → s ≡ refusal 8 bs → r ≡ s
-one-reading-circ-check bs r s p q = p ∙ sym q
+pub one-reading-circ-check : OneResult 1 check-kinds.ps check-kinds.r check-reads.Post
+one-reading-circ-check κs a x y s t p q = p ∙ sym q
 
--- the twelve numbers, and every lent slice afterwards
+-- the twelve numbers, and every lent slice afterwards; the parameters at exit: table, limit, symbols, graphs, productions, kids, report
 pub one-reading-circ-test :
-    (bs : List ℕ) (limit : ℕ) (σ : Slices) (m n : List ℕ) (τ υ : Slices) → TestedFlat bs limit σ m τ → TestedFlat bs limit σ n υ
-    → (m ≡ n) × (τ ≡ υ)
-one-reading-circ-test bs limit σ m n τ υ p q =
-    let s = p .tested in
-    let t = q .tested in
-    let a = s .symbols ∙ sym (t .symbols) in
-    let b = s .graphs ∙ sym (t .graphs) in
-    let c = s .productions ∙ sym (t .productions) in
-    let d = s .kids ∙ sym (t .kids) in
-    (p .numbers-are ∙ ap flat (s .report ∙ sym (t .report)) ∙ sym (q .numbers-are), λ i. slices (a i) (b i) (c i) (d i))
+    OneOutcome 6 test-kinds.ps test-kinds.r test-reads.Post {W = λ κs. List ℕ × Slices}
+    (λ κs r s. (
+      now (s .1 .1 .1 .1 .1 .1 .0),
+      slices (now (s .1 .1 .0)) (now (s .1 .1 .1 .0)) (now (s .1 .1 .1 .1 .0)) (now (s .1 .1 .1 .1 .1 .0)),
+    ))
+one-reading-circ-test κs a x y s t p q i =
+    let u = p .tested in
+    let v = q .tested in (
+      (p .numbers-are ∙ ap flat (u .report ∙ sym (v .report)) ∙ sym (q .numbers-are)) i,
+      slices ((u .symbols ∙ sym (v .symbols)) i) ((u .graphs ∙ sym (v .graphs)) i) ((u .productions ∙ sym (v .productions)) i)
+      ((u .kids ∙ sym (v .kids)) i),
+    )
 
+-- the rows are lent: what comes back is what they hold afterwards
 pub one-reading-circ-own-rows :
-    (bs : List ℕ) (r s : List ℕ) → r ≡ own 8 (edgesIn bs) (replicate 64 0) → s ≡ own 8 (edgesIn bs) (replicate 64 0) → r ≡ s
-one-reading-circ-own-rows bs r s p q = p ∙ sym q
+    OneOutcome 2 own-rows-kinds.ps own-rows-kinds.r own-rows-reads.Post (λ κs r s. now (s .1 .0))
+one-reading-circ-own-rows κs a x y s t p q = p ∙ sym q
 
-module _ (rows : List ℕ) where
-  pub one-reading-circ-place :
-      (graph occurrence : ℕ) (r s : List ℕ) → r ≡ placed 8 occurrence graph rows → s ≡ placed 8 occurrence graph rows → r ≡ s
-  one-reading-circ-place graph occurrence r s p q = p ∙ sym q
+pub one-reading-circ-place : OneOutcome 1 place-kinds.ps place-kinds.r place-reads.Post (λ κs r s. now (s .0))
+one-reading-circ-place κs a x y s t p q = p ∙ sym q
 
-  pub one-reading-circ-close :
-      (occurrences : ℕ) (r s : List ℕ) → r ≡ closedFirst (8 * occurrences) rows → s ≡ closedFirst (8 * occurrences) rows → r ≡ s
-  one-reading-circ-close occurrences r s p q = p ∙ sym q
+pub one-reading-circ-close : OneOutcome 1 close-kinds.ps close-kinds.r close-reads.Post (λ κs r s. now (s .0))
+one-reading-circ-close κs a x y s t p q = p ∙ sym q
 
-  pub one-reading-circ-has-circle :
-      (occurrences : ℕ) (r s : Bool) → r ≡ hasCircle (take (8 * occurrences) rows) → s ≡ hasCircle (take (8 * occurrences) rows) → r ≡ s
-  one-reading-circ-has-circle occurrences r s p q = p ∙ sym q
+pub one-reading-circ-has-circle : OneResult 1 has-circle-kinds.ps has-circle-kinds.r has-circle-reads.Post
+one-reading-circ-has-circle κs a x y s t p q = p ∙ sym q
 
-  pub one-reading-circ-root-graph : (r s : ℕ) → r ≡ rootGraph 8 rows → s ≡ rootGraph 8 rows → r ≡ s
-  one-reading-circ-root-graph r s p q = p ∙ sym q
+pub one-reading-circ-root-graph : OneResult 1 root-graph-kinds.ps root-graph-kinds.r root-graph-reads.Post
+one-reading-circ-root-graph κs a x y s t p q = p ∙ sym q
