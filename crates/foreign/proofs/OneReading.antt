@@ -5,6 +5,7 @@ use Prim.Native.Nat.{ℕ}
 use denote.Ref.{now}
 use Rattle.numbers.proofs.Reading.{OneOutcome, OneResult}
 use Rattle.passes.specs.Slices.{Slices, slices}
+use Rattle.passes.proofs.OneReading.{Back, told-once}
 use Rattle.foreign.specs.Flat.{flat}
 use Rattle.foreign.proofs.circ_check.Kinds as check-kinds
 use Rattle.foreign.proofs.circ_check.Reads as check-reads
@@ -32,12 +33,8 @@ pub one-reading-circ-test :
       slices (now (s .1 .1 .0)) (now (s .1 .1 .1 .0)) (now (s .1 .1 .1 .1 .0)) (now (s .1 .1 .1 .1 .1 .0)),
     ))
 one-reading-circ-test κs a x y s t p q i =
-    let u = p .tested in
-    let v = q .tested in (
-      (p .numbers-are ∙ ap flat (u .report ∙ sym (v .report)) ∙ sym (q .numbers-are)) i,
-      slices ((u .symbols ∙ sym (v .symbols)) i) ((u .graphs ∙ sym (v .graphs)) i) ((u .productions ∙ sym (v .productions)) i)
-      ((u .kids ∙ sym (v .kids)) i),
-    )
+    let told = told-once (p .tested) (q .tested) in
+    ((p .numbers-are ∙ ap (λ (b : Back). flat (b .0)) told ∙ sym (q .numbers-are)) i, told i .1)
 
 -- the rows are lent: what comes back is what they hold afterwards
 pub one-reading-circ-own-rows :

@@ -1,28 +1,35 @@
--- Two results that meet the promise of a public function are equal, and so are the buffer and the slices afterwards. Assumes nothing.
+-- The promise of each public function has one reading: the buffer and the slices afterwards, and the length that is returned. Assumes
+-- nothing.
 use mathlib.Core.Bool.{Bool}
 use mathlib.Core.List.{List}
 use mathlib.Core.Path.{_≡_, sym, _∙_}
 use Prim.Native.Nat.{ℕ}
+use denote.Ref.{now}
+use Rattle.numbers.proofs.Reading.{OneOutcome}
 use Rattle.passes.specs.Slices.{Slices, slices}
-use Rattle.print.specs.Texts.{Printed, TestPrinted}
+use Rattle.passes.proofs.OneReading.{told-once}
+use Rattle.print.specs.Texts.{Printed}
+use Rattle.print.proofs.report_text.Kinds as report-text-kinds
+use Rattle.print.proofs.report_text.Reads as report-text-reads
+use Rattle.print.proofs.test_text.Kinds as test-text-kinds
+use Rattle.print.proofs.test_text.Reads as test-text-reads
+
+abbrev Back : Type 0
+Back = List ℕ × ℕ
+
+printed-once : {text : List ℕ} {ok : Bool} {old new new′ : List ℕ} {r r′ : ℕ} → Printed text ok old new r → Printed text ok old new′ r′
+    → _≡_ {A = Back} (new, r) (new′, r′)
+printed-once p q i = ((p .buffer ∙ sym (q .buffer)) i, (p .count ∙ sym (q .count)) i)
 
 pub one-reading-report-text :
-    (text : List ℕ) (ok : Bool) (old new other : List ℕ) (r s : ℕ) → Printed text ok old new r → Printed text ok old other s
-    → (new ≡ other) × (r ≡ s)
-one-reading-report-text text ok old new other r s p q = (p .buffer ∙ sym (q .buffer), p .count ∙ sym (q .count))
+    OneOutcome 6 report-text-kinds.ps report-text-kinds.r report-text-reads.Post {W = λ κs. Back} (λ κs r s. (now (s .0), r))
+one-reading-report-text κs a x y s t p q = printed-once p q
 
+-- the parameters at exit: buffer, table, limit, symbols, graphs, productions, kids
 pub one-reading-test-text :
-    (bs : List ℕ) (limit : ℕ) (σ τ υ : Slices) (old new other : List ℕ) (r s : ℕ) → TestPrinted bs limit σ τ old new r
-    → TestPrinted bs limit σ υ old other s
-    → (τ ≡ υ) × (new ≡ other) × (r ≡ s)
-one-reading-test-text bs limit σ τ υ old new other r s p q =
-    let x = p .stored in
-    let y = q .stored in
-    let a = x .symbols ∙ sym (y .symbols) in
-    let b = x .graphs ∙ sym (y .graphs) in
-    let c = x .productions ∙ sym (y .productions) in
-    let d = x .kids ∙ sym (y .kids) in (
-      (λ i. slices (a i) (b i) (c i) (d i)),
-      p .text .buffer ∙ sym (q .text .buffer),
-      p .text .count ∙ sym (q .text .count),
-    )
+    OneOutcome 6 test-text-kinds.ps test-text-kinds.r test-text-reads.Post {W = λ κs. Back × Slices}
+    (λ κs r s. (
+      (now (s .0), r),
+      slices (now (s .1 .1 .1 .0)) (now (s .1 .1 .1 .1 .0)) (now (s .1 .1 .1 .1 .1 .0)) (now (s .1 .1 .1 .1 .1 .1 .0)),
+    ))
+one-reading-test-text κs a x y s t p q i = (printed-once (p .text) (q .text) i, told-once (p .stored) (q .stored) i .1)
