@@ -116,13 +116,13 @@ pub fn test(table: &[u8], limit: u32, entries: &mut Entries) -> Report {
     }
 }
 
-/// From the answer's number, where 0 is noncircular and 10 circular, and the root's production.
+/// From the answer's number, where 0 is noncircular and 255 circular, and the root's production.
 fn answer(kind: u32, production: u32) -> Answer {
     match kind {
         0 => Answer::Noncircular,
         8 => Answer::OutOfSteps,
         9 => Answer::OutOfRoom,
-        10 => Answer::Circular(production as u16),
+        255 => Answer::Circular(production as u16),
         number => Answer::Refused(number as u8),
     }
 }

@@ -8,10 +8,11 @@ use Rattle.rules.specs.declared.Answer.the-variants.{Noncircular, Circular, Ref
 use Rattle.rules.specs.declared.Report.{Report}
 use Rattle.passes.specs.Slices.{Slices, Tested}
 
--- 01's number of the answer; 0 is noncircular and 10 is circular
+-- 1 to 9 are the page's numbers: a refusal's, then out of steps and out of room. The page numbers no verdict, so these are the export's
+-- own: 0 for noncircular, and 255 for circular, which stays clear of refusals numbered after 9.
 abbrev pub kind : Answer → ℕ
 kind Noncircular = 0
-kind (Circular p) = 10
+kind (Circular p) = 255
 kind (Refused k) = k
 kind OutOfSteps = 8
 kind OutOfRoom = 9

@@ -34,7 +34,7 @@ fn kind_of(answer: Answer) -> u32
 {
     match answer {
         Answer::Noncircular => 0,
-        Answer::Circular(_) => 10,
+        Answer::Circular(_) => 255,
         Answer::Refused(k) => k as u32,
         Answer::OutOfSteps => 8,
         Answer::OutOfRoom => 9,
