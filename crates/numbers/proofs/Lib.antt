@@ -1,4 +1,4 @@
--- Laws that several crates cite: bytes past the end, runs of numbers, parts of a list, tests over a list, orders, bits, paths.
+-- Laws that several crates cite: bytes past the end, runs of numbers, parts of a list, tests over a list, orders, bits, paths, one reading.
 pub mod Bytes
 pub mod Ranges
 pub mod Parts
