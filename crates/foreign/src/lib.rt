@@ -16,7 +16,7 @@ use rules::Report;
 pub extern "C" fn circ_check(table: &[u8]) -> u8
     ensures { λ r. ⌜ r ≡ refusal 8 (now (table .entry)) ⌝ }
 {
-    let checked = grammar::check(table);
+    let checked = tables::check(table);
     match checked {
         Checked::Good => 0,
         Checked::Refused(number) => number,

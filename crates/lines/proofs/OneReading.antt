@@ -3,7 +3,7 @@ use mathlib.Core.Path.{_≡_, sym, _∙_}
 use mathlib.Core.List.{List}
 use Prim.Native.Nat.{ℕ}
 use denote.Ref.{now}
-use Rattle.grammar.proofs.OneReading.{OneOutcome}
+use Rattle.numbers.proofs.Reading.{OneOutcome}
 use Rattle.lines.specs.Lines.{Written}
 use Rattle.lines.proofs.put_first.Kinds as put-first-kinds
 use Rattle.lines.proofs.put_first.Reads as put-first-reads

@@ -320,7 +320,7 @@ fn task_of(table: &[u8], number: usize, room: usize, first: usize) -> Task
     requires { ⌜ (refusal 8 (now table) ≡ 0) × (number < P (now table)) ⌝ }
     ensures { λ r. ⌜ r ≡ taskOf (now (table .entry)) number room first ⌝ }
 {
-    let production = grammar::production_of(table, number);
+    let production = tables::production_of(table, number);
     let rights = production.slots;
     let count = wide(production.n);
     Task {
@@ -338,7 +338,7 @@ fn own_of(table: &[u8], number: usize) -> [u64; 64]
     requires { ⌜ (refusal 8 (now table) ≡ 0) × (number < P (now table)) ⌝ }
     ensures { λ r. ⌜ r ≡ ownOf (now (table .entry)) number ⌝ }
 {
-    let run = grammar::run_of(table, number);
+    let run = tables::run_of(table, number);
     graph::own_rows(run)
 }
 
@@ -481,7 +481,7 @@ pub fn test(
         (slices (now (symbols .entry)) (now (graphs .entry)) (now (productions .entry)) (now (kids .entry))) r
         (slices (now (symbols .exit)) (now (graphs .exit)) (now (productions .exit)) (now (kids .exit))) ⌝ }
 {
-    let checked = grammar::check(table);
+    let checked = tables::check(table);
     if let Checked::Refused(number) = checked {
         return Report {
             answer: Answer::Refused(number),
@@ -492,7 +492,7 @@ pub fn test(
         };
     }
     let room = room_of(symbols.len(), graphs.len(), productions.len(), kids.len());
-    let header = grammar::header_of(table);
+    let header = tables::header_of(table);
     let count = wide(header.productions);
     passes(
         table,

@@ -21,7 +21,7 @@ fn wide(x: u16) -> usize
 fn kids_in(table: &[u8], p: u16) -> usize
     ensures { λ r. ⌜ r ≡ kidsIn (now (table .entry)) p ⌝ }
 {
-    let production = grammar::production_of(table, wide(p));
+    let production = tables::production_of(table, wide(p));
     wide(production.n)
 }
 

@@ -68,7 +68,7 @@ fn root_line(text: &mut [u8], at: usize, table: &[u8], report: Report) -> usize 
     let Answer::Circular(p) = answer else {
         return at;
     };
-    let production = grammar::production_of(table, wide(p));
+    let production = tables::production_of(table, wide(p));
     let root = report.root;
     lines::put_root(text, at, p, root, wide(production.n))
 }

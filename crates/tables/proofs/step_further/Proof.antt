@@ -1,0 +1,74 @@
+-- `tables::step_further` meets its contract. Assumes nothing.
+use mathlib.Core.Path.{_≡_, sym, ap, _∙_}
+use Prim.Native.Nat.{_+_, _-_, _*_}
+use native.Mathlib.Omega.{arith}
+use borrow.Author.Needs.{needs}
+use Rattle.numbers.specs.Number.{le2}
+use Rattle.grammar.specs.Reading.{producing}
+use Rattle.grammar.proofs.Seeking.{further-few, further-on, further-not}
+use Rattle.tables.proofs.step_further.Statement.{statement}
+use Rattle.tables.proofs.step_further.Tie as tie
+
+add-next : tie.Need-add-next
+add-next c = search needs
+
+cast-if1 : tie.Need-cast-if1
+cast-if1 c = search needs
+
+returns : tie.Need-returns
+returns c =
+    let a = c .before .before .before .args in
+    let e = ap (λ h. h .edges) (c .before .before .before .pre .0) in
+    sym (further-few (a .table .now) (a .p) (a .step) (a .at) (omega arith))
+
+at-edges-requires : tie.Need-at-edges-requires
+at-edges-requires c κs = search needs
+
+sub-two-at : tie.Need-sub-two-at
+sub-two-at c = search needs
+
+mul-two-at : tie.Need-mul-two-at
+mul-two-at c = search needs
+
+add-two-at : tie.Need-add-two-at
+add-two-at c = search needs
+
+two-at-requires : tie.Need-two-at-requires
+two-at-requires c κs = search needs
+
+cast-if2 : tie.Need-cast-if2
+cast-if2 c = search needs
+
+returns-2 : tie.Need-returns-2
+returns-2 c =
+    let a = c .before .before .before .before .before .before .args in
+    let h = c .before .before .before .before .before .before .pre .0 in
+    let e = ap (λ h. h .edges) h in
+    let at = c .before .before .at-edges .ensures ∙ ap (λ h. 24 + 2 * h .symbols + 18 * h .productions) h in
+    let last : c .before .two-at .result ≡ producing (a .table .now) (a .at + a .step - 1) = c .before .two-at .ensures ∙ ap (λ at. le2 (a .table .now) (at + 6 * (a .at + a .step - 1))) at in
+    sym (further-on (a .table .now) (a .p) (a .step) (a .at) (omega arith) (omega arith))
+
+returns-3 : tie.Need-returns-3
+returns-3 c =
+    let a = c .before .before .before .before .before .before .args in
+    let h = c .before .before .before .before .before .before .pre .0 in
+    let e = ap (λ h. h .edges) h in
+    let at = c .before .before .at-edges .ensures ∙ ap (λ h. 24 + 2 * h .symbols + 18 * h .productions) h in
+    let last : c .before .two-at .result ≡ producing (a .table .now) (a .at + a .step - 1) = c .before .two-at .ensures ∙ ap (λ at. le2 (a .table .now) (at + 6 * (a .at + a .step - 1))) at in
+    sym (further-not (a .table .now) (a .p) (a .step) (a .at) (omega arith) (omega arith))
+
+pub step-further-spec : {M : Type 1} → statement M
+step-further-spec =
+    tie.close
+    (tie.spec
+    add-next
+    cast-if1
+    returns
+    at-edges-requires
+    sub-two-at
+    mul-two-at
+    add-two-at
+    two-at-requires
+    cast-if2
+    returns-2
+    returns-3)
