@@ -5,43 +5,21 @@ use mathlib.Core.List.{List, [], _∷_, _++_, map}
 use mathlib.Core.Logic.{⊎-elim}
 use Prim.Native.Nat.{ℕ, zero, suc, _+_, _*_, _/_, _%_, _^_, _-_, _≤_, _<_, min, max}
 use native.Mathlib.Nat.{max-zero, eq-or-lt-of-le}
-use native.Mathlib.Decide.{decLe, decLt}
+use native.Mathlib.Decide.{decLt}
 use native.Mathlib.Numerals.{add-one}
 use native.Mathlib.Omega.{arith}
 use lib.Bits.{bitOr, or-zero-r}
 use lib.Dec.{ltb, eqb}
-use lib.ListN.{length, getD, set, take, drop, length-append, length-map, length-set, length-take, length-drop, drop-of-length-le, List·getD-eq-default}
-use lib.Seq.{set-out, take-all, take-at, drop-at, getD-take}
+use lib.ListN.{length, getD, set, take, drop, length-append, length-map, length-set, length-take, length-drop, List·getD-eq-default}
+use lib.Seq.{set-out, take-at, drop-at, getD-take}
 use borrow.Author.Tests.{lt-ltb, le-ltb, eq-eqb}
 use Rattle.numbers.specs.Number.{bit}
 use Rattle.numbers.specs.Lists.{upFrom}
 use Rattle.numbers.proofs.Bits.{bit-lt, bit-zero, bit-or, or-low}
+use Rattle.numbers.proofs.Parts.{take-clipped, drop-clipped}
 use Rattle.grammar.specs.declared.Edge.{Edge}
 use Rattle.graph.specs.Rows.{node, bits, joinAt, link, own, pairsFrom, placedTo, join, through, step, stepsTo, closure, mapFirst, closedFirst, targetsTo, orElse, circleTo, hasCircle, rootTo}
-
--- ---- a number that is clipped to the length of a list
-
-module _ {A : Type 0} (m n : ℕ) (l : List A) (e : n ≡ min m (length l)) where
-  pub take-clipped : take n l ≡ take m l
-  take-clipped = go (decLe m (length l))
-    where
-      go : Dec (m ≤ length l) → take n l ≡ take m l
-      go (yes p) =
-          let q : n ≡ m = omega arith in
-          rw q
-      go (no p) = take-all n l (omega arith) ∙ sym (take-all m l (omega arith))
-
-  pub drop-clipped : drop n l ≡ drop m l
-  drop-clipped = go (decLe m (length l))
-    where
-      go : Dec (m ≤ length l) → drop n l ≡ drop m l
-      go (yes p) =
-          let q : n ≡ m = omega arith in
-          rw q
-      go (no p) = drop-of-length-le l {i = n} (omega arith) ∙ sym (drop-of-length-le l {i = m} (omega arith))
-
-  pub length-clipped : length (take m l) ≡ n
-  length-clipped = length-take m l ∙ sym e
+use Rattle.graph.proofs.Closure.{step-bits}
 
 -- ---- the rows of the edges
 
@@ -147,10 +125,6 @@ length-closure rows = length-steps (length rows) rows
 abbrev pub NoneTo : ℕ → List ℕ → Type 0
 NoneTo j rows = (i : ℕ) → bits rows i j ≡ 0
 
-join-none : (b j via row : ℕ) → bit j via ≡ 0 → bit j row ≡ 0 → bit j (join b via row) ≡ 0
-join-none zero j via row h r = r
-join-none (suc b) j via row h r = bit-or j row via ∙ omega (arith, h, r)
-
 through-none : (k via row : ℕ) → bit k row ≡ 0 → through k via row ≡ row
 unfolding through
 through-none k via row h = rw h
@@ -177,16 +151,8 @@ step-none : (k : ℕ) (rows : List ℕ) → NoneTo k rows → step k rows ≡ ro
 unfolding step
 step-none k rows h = map-same (through k (getD rows k 0)) rows (λ i. through-none k (getD rows k 0) (getD rows i 0) (h i))
 
-row-of-map : (f : ℕ → ℕ) → f 0 ≡ 0 → (rows : List ℕ) (i : ℕ) → getD (map f rows) i 0 ≡ f (getD rows i 0)
-row-of-map f h [] i = sym h
-row-of-map f h (x ∷ rows) zero = refl
-row-of-map f h (x ∷ rows) (suc i) = row-of-map f h rows i
-
 none-stepped : (j k : ℕ) (rows : List ℕ) → NoneTo j rows → NoneTo j (step k rows)
-unfolding step through
-none-stepped j k rows h i =
-    ap (bit j) (row-of-map (through k (getD rows k 0)) (through-none k (getD rows k 0) 0 (bit-zero k)) rows i)
-    ∙ join-none (bit k (getD rows i 0)) j (getD rows k 0) (getD rows i 0) (h k) (h i)
+none-stepped j k rows h i = omega (arith, step-bits k rows i j, h i, h k)
 
 none-steps : (j k : ℕ) (rows : List ℕ) → NoneTo j rows → NoneTo j (stepsTo k rows)
 unfolding stepsTo
@@ -249,7 +215,7 @@ pub closed-clipped : (m n : ℕ) (rows : List ℕ) → n ≡ min m (length rows)
     → stepsTo n (take n rows) ++ drop n rows ≡ closedFirst m rows
 unfolding closure
 closed-clipped m n rows e =
-    let d : n ≡ length (take m rows) = sym (length-clipped m n rows e) in
+    let d : n ≡ length (take m rows) = e ∙ sym (length-take m rows) in
     ap₂ (λ (a b : List ℕ). a ++ b) (ap₂ stepsTo d (take-clipped m n rows e)) (drop-clipped m n rows e)
 
 -- ---- the circle test
@@ -275,4 +241,4 @@ circle-part m (suc n) rows l =
 
 pub circle-clipped : (m n : ℕ) (rows : List ℕ) → n ≡ min m (length rows) → circleTo n rows ≡ hasCircle (take m rows)
 circle-clipped m n rows e =
-    rw (length-clipped m n rows e) (sym (circle-part m n rows (omega arith)))
+    rw (length-take m rows ∙ sym e) (sym (circle-part m n rows (omega arith)))

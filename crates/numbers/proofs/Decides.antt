@@ -1,19 +1,16 @@
 -- A test that decides a statement, and such tests joined. Assumes nothing.
 use mathlib.Core.Path.{_≡_, refl, sym, ap, subst, _∙_}
-use mathlib.Core.Bool.{Bool, true, false, _||_}
+use mathlib.Core.Bool.{Bool, true, false, _||_, true≢false}
 use mathlib.Core.List.{List, [], _∷_, List·Memᴰ, List·Memᴰ·head, List·Memᴰ·tail, List·Memᴰ·cases-cons, List·Memᴰ·not-nil}
 use mathlib.Core.Logic.{_⊎_, inl, inr, ⊎-elim}
 use Prim.Native.Nat.{ℕ, _≤_, _<_}
 use borrow.Author.Tests.{ltb-true, leb-true, eqb-true, lt-ltb, le-leb, eq-eqb}
-use lib.Dec.{leb, ltb, eqb, T}
+use lib.Dec.{leb, ltb, eqb}
 use Rattle.numbers.specs.Lists.{both, every, below, Below}
 
 pub record Decides (b : Bool) (A : Type 0) : Type 0 where
   pub so : b ≡ true → A
   pub passes : A → b ≡ true
-
-pub true-not-false : true ≡ false → ⊥
-true-not-false e = subst T e tt
 
 -- the test by its outcome
 pub data Outcome (b : Bool) (A : Type 0) : Type 0 where
@@ -22,7 +19,7 @@ pub data Outcome (b : Bool) (A : Type 0) : Type 0 where
 
 module _ {b : Bool} {A : Type 0} (d : Decides b A) where
   pub refuted : b ≡ false → A → ⊥
-  refuted e a = true-not-false (sym (d .passes a) ∙ e)
+  refuted e a = true≢false (sym (d .passes a) ∙ e)
 
   pub outcome : Outcome b A
   outcome = go b refl
@@ -68,8 +65,8 @@ both-decides {a} {b} {A} {B} d e = go a refl
         record { so = λ h. (d .so q, e .so (ap (λ t. both t b) (sym q) ∙ h)); passes = λ p. ap (λ t. both t b) q ∙ e .passes (p .1) }
     go false q =
         record {
-          so = λ h. absurd (true-not-false (sym h ∙ ap (λ t. both t b) q));
-          passes = λ p. absurd (true-not-false (sym (d .passes (p .0)) ∙ q));
+          so = λ h. absurd (true≢false (sym h ∙ ap (λ t. both t b) q));
+          passes = λ p. absurd (true≢false (sym (d .passes (p .0)) ∙ q));
         }
 
 module _ {A : Type 0} (f : A → Bool) (P : A → Type 0) (d : (x : A) → Decides (f x) (P x)) where
@@ -84,8 +81,8 @@ module _ {A : Type 0} (f : A → Bool) (P : A → Type 0) (d : (x : A) → Decid
 
 pub below-decides : (xs ys : List ℕ) → Decides (below xs ys) (Below xs ys)
 unfolding below
-below-decides [] ys = record { so = λ e. absurd (true-not-false (sym e)); passes = λ h. absurd h }
-below-decides (x ∷ xs) [] = record { so = λ e. absurd (true-not-false (sym e)); passes = λ h. absurd h }
+below-decides [] ys = record { so = λ e. absurd (true≢false (sym e)); passes = λ h. absurd h }
+below-decides (x ∷ xs) [] = record { so = λ e. absurd (true≢false (sym e)); passes = λ h. absurd h }
 below-decides (x ∷ xs) (y ∷ ys) = or-decides (lt-decides x y) (both-decides (eq-decides x y) (below-decides xs ys))
   where
     or-decides : {a b : Bool} {A B : Type 0} → Decides a A → Decides b B → Decides (a || b) (A ⊎ B)
@@ -96,5 +93,5 @@ below-decides (x ∷ xs) (y ∷ ys) = or-decides (lt-decides x y) (both-decides 
         go false q =
             record {
               so = λ h. inr (e .so (ap (λ t. t || b) (sym q) ∙ h));
-              passes = λ p. ⊎-elim (λ x. absurd (true-not-false (sym (d .passes x) ∙ q))) (λ y. ap (λ t. t || b) q ∙ e .passes y) p;
+              passes = λ p. ⊎-elim (λ x. absurd (true≢false (sym (d .passes x) ∙ q))) (λ y. ap (λ t. t || b) q ∙ e .passes y) p;
             }

@@ -16,6 +16,9 @@ upFrom-split i (suc m) n =
     let d : suc i + m ≡ i + suc m = omega arith in
     rw e (ap (λ l. i ∷ l) (upFrom-split (suc i) m n ∙ ap (λ k. upFrom (suc i) m ++ upFrom k n) d))
 
+pub up-more : (n m : ℕ) → upFrom 0 n ++ upFrom n m ≡ upFrom 0 (n + m)
+up-more n m = sym (upFrom-split 0 n m ∙ ap (λ k. upFrom 0 n ++ upFrom k m) (zero-add n))
+
 module _ {A : Type 0} where
   -- equal at each number of the range
   pub map-same :

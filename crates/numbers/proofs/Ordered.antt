@@ -1,6 +1,6 @@
 -- The order of lists: transitive, by the first field, field by field; what is in a list stands at some number. Assumes nothing.
 use mathlib.Core.Path.{_≡_, refl, _∙_}
-use mathlib.Core.Bool.{Bool, true, false, _||_}
+use mathlib.Core.Bool.{Bool, true, false, or-false}
 use mathlib.Core.List.{List, [], _∷_, List·Memᴰ, List·Memᴰ·head, List·Memᴰ·tail}
 use mathlib.Core.Logic.{inl, inr}
 use Prim.Native.Nat.{ℕ, zero, suc, _≤_, _<_, suc-le-suc, zero-le}
@@ -38,10 +38,6 @@ stands-at d x (y ∷ l) (List·Memᴰ·tail m) =
     (suc (r .0), suc-le-suc (r .1), r .2)
 
 -- ---- the order field by field
-or-false : (b : Bool) → b || false ≡ b
-or-false true = refl
-or-false false = refl
-
 both-false : (b : Bool) → both b false ≡ false
 unfolding both
 both-false true = refl

@@ -1,4 +1,4 @@
--- 01's passes: what their outcome says, and two limits or two rooms. Assumes nothing.
+-- The rules' passes: what their outcome says, and two limits or two rooms. Assumes nothing.
 use mathlib.Core.Path.{_≡_, refl, sym, ap, _∙_, subst, subst₂}
 use mathlib.Core.Bool.{Bool, true, false, cond}
 use mathlib.Core.List.{List, [], List·Memᴰ}
@@ -13,7 +13,7 @@ use Rattle.rules.specs.declared.Entry.{Entry}
 use Rattle.rules.specs.Passes.{System, State, Ran, going, stopped, noRoot, pass, Outcome, outcome, after, empty, passesFrom, passes}
 use Rattle.orders.specs.Stored.{In, Fits, Root, Saturated}
 use Rattle.orders.specs.Answers.{Says, Sound, StepsCompared, RoomCompared, OneStored, Verdict, reached, Passed}
-use Rattle.orders.specs.Claims.{OutcomeSound, TurnsStay, FuelSuffices, StepsExactly, RoomExactly, OneMore, VerdictStands, MoreRoom, OneVerdict}
+use Rattle.orders.specs.Claims.{OutcomeSound, TurnsStay, FuelSuffices, StepsExactly, RoomExactly, OneMore, VerdictStands, MoreRoom}
 use Rattle.orders.specs.Modes.{Candidate, AllSettled}
 use Rattle.orders.specs.Plans.{Plan, end, End, run, outcomeOf, turnsPlan}
 use Rattle.orders.proofs.Combinations.{fits-map, combinations-at, combinations-fit}
@@ -176,8 +176,3 @@ pub more-room : MoreRoom
 more-room W ps L R M S h k v =
     let z = outcome-sound W ps L R in
     verdict-stands W ps L R M S v (omega (arith, z .closures)) (omega (arith, z .entries))
-
-pub one-verdict : OneVerdict
-one-verdict W ps L R M S v w =
-    sym (more-room W ps M S (L + M) (R + S) (omega arith) (omega arith) w)
-    ∙ more-room W ps L R (L + M) (R + S) (omega arith) (omega arith) v

@@ -1,7 +1,7 @@
 -- Combinations of entries: they stay where entries are added, and those of a turn are all combinations of its candidates. Assumes nothing.
 use mathlib.Core.Path.{_≡_, refl, sym, ap, _∙_, subst}
 use mathlib.Core.Logic.{_⊎_, inl, inr}
-use mathlib.Core.List.{List, [], _∷_, _++_, map, List·Memᴰ, List·Memᴰ·head, List·Memᴰ·tail, List·Memᴰ·not-nil, Memᴰ·append-left, Memᴰ·append-right, List·Memᴰ·append-cases}
+use mathlib.Core.List.{List, [], _∷_, _++_, map, List·Memᴰ, List·Memᴰ·head, List·Memᴰ·tail, List·Memᴰ·not-nil, Memᴰ·append-left, Memᴰ·append-right, Memᴰ·map, Memᴰ·of-map, List·Memᴰ·append-cases}
 use Prim.Native.Nat.{ℕ, suc, _<_}
 use native.Mathlib.Omega.{arith}
 use lib.Dec.{eqb}
@@ -9,10 +9,10 @@ use lib.ListN.{length, List·getD-append}
 use lib.Seq.{take-append-seam}
 use borrow.Author.Tests.{eqb-true, eq-eqb}
 use Rattle.numbers.specs.Lists.{upFrom}
+use Rattle.numbers.proofs.Members.{at-cons, keep-at, keep-mem, upFrom-at, upFrom-mem}
 use Rattle.rules.specs.declared.Entry.{Entry}
 use Rattle.rules.specs.Passes.{System, noEntry, entry, graphs, seven, candidates, prefixed, combinations}
 use Rattle.orders.specs.Stored.{Fits, Combination, counting}
-use Rattle.orders.proofs.Members.{at-cons, keep-at, keep-mem, map-mem, mem-map, upFrom-at, upFrom-mem}
 
 pub entry-stays : (es more : List Entry) (i : ℕ) → i < length es → entry (es ++ more) i ≡ entry es i
 entry-stays es more i h = List·getD-append es more noEntry i h
@@ -67,8 +67,8 @@ prefixed-at : (xs : List ℕ) (rest : List (List ℕ)) {x : ℕ} {c : List ℕ} 
 unfolding prefixed
 prefixed-at [] rest m n = absurd (List·Memᴰ·not-nil m)
 prefixed-at (y ∷ xs) rest {x} {c} m n =
-    at-cons (λ z. List·Memᴰ (z ∷ c) (map (λ d. y ∷ d) rest ++ prefixed xs rest)) y
-    (Memᴰ·append-left (prefixed xs rest) (map-mem (λ d. y ∷ d) rest n))
+    at-cons (λ z. List·Memᴰ (z ∷ c) (map (λ d. y ∷ d) rest ++ prefixed xs rest))
+    (Memᴰ·append-left (prefixed xs rest) (Memᴰ·map (λ d. y ∷ d) n))
     (λ k. Memᴰ·append-right (map (λ d. y ∷ d) rest) (prefixed-at xs rest k n)) m
 
 pub record Front (xs : List ℕ) (rest : List (List ℕ)) (z : List ℕ) : Type 0 where
@@ -86,8 +86,8 @@ prefixed-mem (y ∷ xs) rest {z} m = go (List·Memᴰ·append-cases (map (λ d. 
     go : List·Memᴰ z (map (λ d. y ∷ d) rest) ⊎ List·Memᴰ z (prefixed xs rest)
         → (List·Memᴰ z (prefixed xs rest) → Front xs rest z) → Front (y ∷ xs) rest z
     go (inl n) k =
-        let r = mem-map (λ d. y ∷ d) rest n in
-        record { first = y; others = r .0; here = List·Memᴰ·head refl; there = r .1; joined = r .2 }
+        let r = Memᴰ·of-map (λ d. y ∷ d) rest n in
+        record { first = y; others = r .0; here = List·Memᴰ·head refl; there = r .1; joined = sym (r .2) }
     go (inr n) k =
         let r = k n in
         record { first = r .first; others = r .others; here = List·Memᴰ·tail (r .here); there = r .there; joined = r .joined }
@@ -108,7 +108,7 @@ pub combinations-fit : (es : List Entry) (c bs : List ℕ) → List·Memᴰ c (c
     → Combination es (length es) c bs
 unfolding combinations candidates
 combinations-fit es c [] m =
-    at-cons (λ z. Combination es (length es) z []) [] tt (λ n. absurd (List·Memᴰ·not-nil n)) m
+    at-cons (λ z. Combination es (length es) z []) tt (λ n. absurd (List·Memᴰ·not-nil n)) m
 combinations-fit es c (b ∷ bs) m =
     let r = prefixed-mem (candidates es b) (combinations (map (candidates es) bs)) m in
     let k = keep-mem (λ i. eqb (entry es i .symbol) b) (upFrom 0 (length es)) (r .here) in

@@ -2,7 +2,7 @@
 -- Assumes nothing.
 use mathlib.Core.Path.{_≡_, refl, sym, ap, _∙_, subst}
 use mathlib.Core.Bool.{false}
-use mathlib.Core.List.{List, [], _∷_, _++_, append-nil, append-assoc}
+use mathlib.Core.List.{List, [], _∷_, _++_}
 use Prim.Native.Nat.{ℕ, _≤_, _<_}
 use native.Mathlib.Omega.{arith}
 use native.Mathlib.Decide.{decLt}
@@ -14,6 +14,7 @@ use Rattle.orders.specs.Stored.{Fits, Combination, counting, kidGraphs, 
 use Rattle.orders.specs.Modes.{needless, fresh, newEntry, Mode, Covered, Later, Settled, Shown, settled, added, Lawful}
 use Rattle.orders.proofs.Combinations.{entry-stays, fits-map, fits-more, graphs-stay, counting-seven}
 use Rattle.orders.proofs.Points.{size, Goes, passed, stored}
+use Rattle.orders.proofs.Limits.{stays-same, stays-then, stays-longer}
 
 -- ---- how an entry is made
 module _ (W : System) (Part : ℕ → Type 0) where
@@ -67,16 +68,19 @@ module _ (W : System) (Part : ℕ → Type 0) where
 -- ---- later stores
 module _ {W : System} (M : Mode W) where
   pub later-none : (s : M .Store) → Later M s s
-  later-none s = record { more = []; stays = sym (append-nil (M .entries s)); retired = λ i l h. h; covered = λ a g h. h }
+  later-none s =
+      let w = stays-same M s s refl in
+      record { more = w .0; stays = w .1; retired = λ i l h. h; covered = λ a g h. h }
 
   pub later-longer : (s t : M .Store) → Later M s t → size M s ≤ size M t
-  later-longer s t l = omega (arith, ap length (l .stays), length-append (M .entries s) (l .more))
+  later-longer s t l = stays-longer M s t (l .more, l .stays)
 
   pub later-then : (s t u : M .Store) → Later M s t → Later M t u → Later M s u
   later-then s t u f g =
+      let w = stays-then M s t u (f .more, f .stays) (g .more, g .stays) in
       record {
-        more = f .more ++ g .more;
-        stays = g .stays ∙ ap (λ es. es ++ g .more) (f .stays) ∙ append-assoc (M .entries s) (f .more) (g .more);
+        more = w .0;
+        stays = w .1;
         retired = λ i l h. f .retired i l (g .retired i (omega (arith, later-longer s t f)) h);
         covered = λ a b h. g .covered a b (f .covered a b h);
       }

@@ -1,6 +1,5 @@
--- Any plan in any mode: Points, Limits, Kept, Turns, Sound. 01's passes as a plan: Plain, Link. The claims: Answers; at A
+-- Any plan in any mode: Points, Limits, Kept, Turns, Sound. The rules' passes as a plan: Plain, Link. The claims: Answers; at A
 -- and B: Samples.
-pub mod Members
 pub mod Combinations
 pub mod Points
 pub mod Limits

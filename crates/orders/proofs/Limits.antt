@@ -33,14 +33,14 @@ module _ {W : System} (M : Mode W) where
   abbrev pub Stays : M .Store → M .Store → Type 0
   Stays s t = (more : List Entry) × (M .entries t ≡ M .entries s ++ more)
 
-  stays-same : (s t : M .Store) → t ≡ s → Stays s t
+  pub stays-same : (s t : M .Store) → t ≡ s → Stays s t
   stays-same s t e = ([], ap (M .entries) e ∙ sym (append-nil (M .entries s)))
 
-  stays-then : (s t u : M .Store) → Stays s t → Stays t u → Stays s u
+  pub stays-then : (s t u : M .Store) → Stays s t → Stays t u → Stays s u
   stays-then s t u a b =
       (a .0 ++ b .0, b .1 ∙ ap (λ es. es ++ b .0) (a .1) ∙ append-assoc (M .entries s) (a .0) (b .0))
 
-  stays-longer : (s t : M .Store) → Stays s t → size M s ≤ size M t
+  pub stays-longer : (s t : M .Store) → Stays s t → size M s ≤ size M t
   stays-longer s t a = omega (arith, ap length (a .1), length-append (M .entries s) (a .0))
 
   goes-stays : (p : ℕ) (c : List ℕ) (s t : M .Store) → Goes M p c s t → Stays s t

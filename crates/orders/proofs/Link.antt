@@ -1,4 +1,4 @@
--- 01's passes are the run of a plan in the plain mode. Assumes nothing.
+-- The rules' passes are the run of a plan in the plain mode. Assumes nothing.
 use mathlib.Core.Path.{_≡_, refl, sym, ap, _∙_}
 use mathlib.Core.Bool.{Bool, true, false, cond}
 use mathlib.Core.List.{List, [], _∷_, _++_, map}

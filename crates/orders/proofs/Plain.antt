@@ -1,6 +1,6 @@
--- 01's way to store is a lawful mode: the list of entries, all of them live, and step 4 looks for the same graph. Assumes nothing.
-use mathlib.Core.Path.{_≡_, refl, sym, ap, ap₂, _∙_}
-use mathlib.Core.Bool.{Bool, true, false, _||_, false≢true}
+-- The rules' way to store is a lawful mode: the list of entries, all of them live, and step 4 looks for the same graph. Assumes nothing.
+use mathlib.Core.Path.{_≡_, refl, sym, ap, _∙_}
+use mathlib.Core.Bool.{Bool, true, false, _||_, true≢false, false≢true}
 use mathlib.Core.List.{List, [], _∷_, _++_}
 use Prim.Native.Nat.{ℕ, zero, suc, _<_}
 use native.Mathlib.Omega.{arith}
@@ -8,16 +8,18 @@ use native.Mathlib.Decide.{decLt}
 use lib.Dec.{eqb}
 use lib.ListN.{length, length-append}
 use lib.Seq.{getD-append-seam}
-use borrow.Author.Tests.{eqb-true, eq-eqb}
 use Rattle.numbers.specs.Lists.{both}
+use Rattle.numbers.proofs.Decides.{Decides, refuted, eq-decides, both-decides}
 use Rattle.rules.specs.declared.Entry.{Entry}
 use Rattle.rules.specs.Passes.{System, noEntry, entry, graphs, known}
 use Rattle.orders.specs.Stored.{Different, Holds}
-use Rattle.orders.specs.Modes.{Judged, round, needless, fresh, newEntry, Mode, Covered, Later, Shown, circle, settled, added, Lawful, Above, Monotone}
-use Rattle.orders.proofs.Members.{both-split, both-join, clash}
+use Rattle.orders.specs.Modes.{Judged, round, needless, fresh, newEntry, Mode, Covered, Later, Shown, circle, settled, added, Lawful}
 use Rattle.orders.proofs.Combinations.{entry-stays}
 
 -- ---- step 4
+alike : (a g : ℕ) (e : Entry) → Decides (both (eqb (e .symbol) a) (eqb (e .graph) g)) ((e .symbol ≡ a) × (e .graph ≡ g))
+alike a g e = both-decides (eq-decides (e .symbol) a) (eq-decides (e .graph) g)
+
 pub known-holds : (a g : ℕ) (es : List Entry) → known a g es ≡ true → Holds es a g
 unfolding known
 known-holds a g [] h = absurd (false≢true h)
@@ -26,8 +28,8 @@ known-holds a g (e ∷ es) h = go (both (eqb (e .symbol) a) (eqb (e .graph) g)) 
     go : (b : Bool) → both (eqb (e .symbol) a) (eqb (e .graph) g) ≡ b → (b || known a g es) ≡ true
         → (known a g es ≡ true → Holds es a g) → Holds (e ∷ es) a g
     go true q h ih =
-        let r = both-split (eqb (e .symbol) a) (eqb (e .graph) g) q in
-        record { number = 0; among = omega arith; symbol = eqb-true (e .symbol) a (r .0); graph = eqb-true (e .graph) g (r .1) }
+        let r = alike a g e .so q in
+        record { number = 0; among = omega arith; symbol = r .0; graph = r .1 }
     go false q h ih =
         let r = ih h in
         record { number = suc (r .number); among = omega (arith, r .among); symbol = r .symbol; graph = r .graph }
@@ -41,8 +43,7 @@ holds-known a g (e ∷ es) h =
     go : (i : ℕ) → i < suc (length es) → entry (e ∷ es) i .symbol ≡ a → entry (e ∷ es) i .graph ≡ g
         → (b : Bool) → both (eqb (e .symbol) a) (eqb (e .graph) g) ≡ b → (Holds es a g → known a g es ≡ true) → (b || known a g es) ≡ true
     go i l p q true x ih = refl
-    go zero l p q false x ih =
-        absurd (clash (both-join (eqb (e .symbol) a) (eqb (e .graph) g) (eq-eqb (e .symbol) a p) (eq-eqb (e .graph) g q)) x)
+    go zero l p q false x ih = absurd (refuted (alike a g e) x (p, q))
     go (suc i) l p q false x ih = ih (record { number = i; among = omega arith; symbol = p; graph = q })
 
 -- ---- one entry more
@@ -154,7 +155,7 @@ module _ (W : System) where
       go true x b y = circle x
       go false x true y = settled (record { calm = x; covered = holds-covered es (W .left p) g (known-holds (W .left p) g es y) })
       go false x false y =
-          let new : Holds es (W .left p) g → ⊥ = λ h. clash (holds-known (W .left p) g es h) y in
+          let new : Holds es (W .left p) g → ⊥ = λ h. true≢false (sym (holds-known (W .left p) g es h) ∙ y) in
           added x (λ h. new (covered-holds es (W .left p) g h)) (different-more es e d new) later
           (holds-covered (es ++ (e ∷ [])) (W .left p) g (holds-new es e))
 
@@ -165,17 +166,3 @@ module _ (W : System) where
     judges = shown;
     differ = λ s d. d;
   }
-
-  same-graphs : (hs gs : List ℕ) → Above (λ h g. h ≡ g) hs gs → hs ≡ gs
-  same-graphs [] [] a = refl
-  same-graphs [] (g ∷ gs) a = absurd a
-  same-graphs (h ∷ hs) [] a = absurd a
-  same-graphs (h ∷ hs) (g ∷ gs) a = ap₂ (λ x xs. x ∷ xs) (a .0) (same-graphs hs gs (a .1))
-
-  pub plain-monotone : Monotone plain
-  plain-monotone =
-      record {
-        through = λ f g h p q. p ∙ q;
-        graphs = λ p hs gs a. ap (W .graph p) (same-graphs hs gs a);
-        circles = λ p hs gs a c. ap (W .circle p) (same-graphs hs gs a) ∙ c;
-      }

@@ -87,14 +87,14 @@ module _ {W : System} (M : Mode W) where
     module _ (I : Plan (M .Store) → M .Store → ℕ → Type 0)
         (keeps : (n p : ℕ) (c : List ℕ) (f : Rest) (s t : M .Store) (m : ℕ)
         → I (next n p c f) s m → m < L → Goes p c s t → size t ≤ R → I (f t) t (suc m)) where
-      pub point : (P : Plan (M .Store)) (s : M .Store) (m : ℕ) → m ≤ L → size s ≤ R → I P s m → Point I P s m (run M L R P s m)
-      unfolding run tried
-      point (end n) s m h k i =
+      stops-here : (P : Plan (M .Store)) (s : M .Store) (m : ℕ) → m ≤ L → size s ≤ R → I P s m → {e : End (M .Store)} → Last P s m e
+          → Point I P s m e
+      stops-here P s m h k i z =
           record {
-            plan = end n;
+            plan = P;
             store = s;
             made = m;
-            last = over;
+            last = z;
             counts = omega arith;
             grows = omega arith;
             closures = h;
@@ -102,23 +102,15 @@ module _ {W : System} (M : Mode W) where
             holds = i;
             comes = λ l r a b. refl;
           }
+
+      pub point : (P : Plan (M .Store)) (s : M .Store) (m : ℕ) → m ≤ L → size s ≤ R → I P s m → Point I P s m (run M L R P s m)
+      unfolding run tried
+      point (end n) s m h k i = stops-here (end n) s m h k i over
       point (next n p c f) s m h k i =
           go (leb L m) refl (M .judge p c s) refl (leb R (size s)) refl (λ t. point (f t) t (suc m))
         where
           here : {e : End (M .Store)} → Last (next n p c f) s m e → Point I (next n p c f) s m e
-          here z =
-              record {
-                plan = next n p c f;
-                store = s;
-                made = m;
-                last = z;
-                counts = omega arith;
-                grows = omega arith;
-                closures = h;
-                entries = k;
-                holds = i;
-                comes = λ l r a b. refl;
-              }
+          here z = stops-here (next n p c f) s m h k i z
 
           on : (t : M .Store) → size s ≤ size t
               → ((l r : ℕ) → m < l → size t ≤ r → run M l r (next n p c f) s m ≡ run M l r (f t) t (suc m))

@@ -4,20 +4,14 @@ use mathlib.Core.List.{List, [], _∷_}
 use Prim.Native.Nat.{ℕ, _≤_}
 use native.Mathlib.Omega.{arith}
 use lib.ListN.{length}
-use Rattle.rules.specs.declared.Answer.{Answer}
 use Rattle.rules.specs.declared.Answer.the-variants.{Noncircular, Circular, OutOfSteps, OutOfRoom}
 use Rattle.rules.specs.Passes.{Outcome, passes}
 use Rattle.rules.specs.Test.{opened}
+use Rattle.rules.proofs.Cases.{Line, lineOf as line}
 use Rattle.orders.specs.Stored.{In, Root, Saturated}
 use Rattle.orders.specs.Answers.{Verdict, OneStored}
 use Rattle.orders.specs.Samples.{small, A, B, productions}
 use Rattle.orders.proofs.Answers.{noncircular-saturated, circular-root, steps-exactly, room-exactly, one-more, more-room}
-
-abbrev Line : Type 0
-Line = Answer × ℕ × ℕ × ℕ
-
-abbrev line : Outcome → Line
-line o = (o .report .answer, o .report .closures, o .report .entries, o .report .passes)
 
 abbrev runA : ℕ → ℕ → Outcome
 runA L R = passes A L R productions

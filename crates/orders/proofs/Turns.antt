@@ -11,7 +11,7 @@ use Rattle.rules.specs.Passes.{System, entry}
 use Rattle.orders.specs.Stored.{In, Fits, Combination}
 use Rattle.orders.specs.Modes.{Mode, Candidate, Later, Settled, AllSettled, Turned, Turns, none, then, Lawful}
 use Rattle.orders.specs.Plans.{Plan, end, next, triesPlan, turnsPlan, afterPass, passesPlan}
-use Rattle.orders.proofs.Members.{at-cons}
+use Rattle.numbers.proofs.Members.{at-cons}
 use Rattle.orders.proofs.Combinations.{fits-map, fits-less}
 use Rattle.orders.proofs.Points.{size, Rest, Goes}
 use Rattle.orders.proofs.Kept.{later-none, later-longer, later-then, later-combination, later-settled, Ready, Kept, Went, went, ready-later}
@@ -55,7 +55,7 @@ module _ {W : System} (M : Mode W) where
   pub rested : {ps : List ℕ} {s t : M .Store} → Turns M ps s t → size M t ≤ size M s → AllSettled M (In ps) t
   rested none l p m = absurd (List·Memᴰ·not-nil m)
   rested (then {p = q} {ps = ps} {s = s} {t = t} {u = u} h hs) l p m =
-      at-cons (λ x. (c : List ℕ) → Offer u c (W .rights x) → Settled M u x c) q
+      at-cons (λ x. (c : List ℕ) → Offer u c (W .rights x) → Settled M u x c)
       (unchanged q s t u h (turns-later hs) (λ i k n. omega (arith, k .0)))
       (λ n. rested hs (omega (arith, later-longer M s t (h .later))) p n) m
 
@@ -71,7 +71,7 @@ module _ {W : System} (M : Mode W) (laws : Lawful M) (Part : ℕ → Type 0) (R 
       → Later M t u → ((d : List ℕ) → List·Memᴰ d cs → Settled M u p d) → (d : List ℕ) → List·Memᴰ d (c ∷ cs) → Settled M u p d
   first-settled p c cs s t u r w l h d m =
       let z = later-settled M t u l p c (later-combination M s t (w .later) c (W .rights p) (r .fits)) (w .settled) in
-      at-cons (Settled M u p) c z (h d) m
+      at-cons (Settled M u p) z (h d) m
 
   module _ (Q : M .Store → Type 0) where
     -- every try that the plan chooses is ready, and where the plan is over Q holds

@@ -1,4 +1,4 @@
--- K1 to K10, and what else 01 prints of its small grammars, from the tables' bytes. Assumes nothing.
+-- K1 to K10, and what else the rules print of their small grammars, from the tables' bytes. Assumes nothing.
 use mathlib.Core.Path.{_≡_, refl}
 use mathlib.Core.List.{List, [], _∷_}
 use Prim.Native.Nat.{ℕ}
@@ -6,18 +6,21 @@ use lib.ListN.{replicate}
 use Rattle.rules.specs.declared.Answer.{Answer}
 use Rattle.rules.specs.declared.Answer.the-variants.{Noncircular, Circular}
 use Rattle.rules.specs.declared.Entry.{Entry}
-use Rattle.rules.specs.Passes.{Outcome, numbered}
+use Rattle.rules.specs.Passes.{numbered, Outcome}
 use Rattle.rules.specs.Test.{test, opened}
 use Rattle.rules.specs.Small.{tableA, tableB, tableC, tableD, tableR, tableQ}
 
 -- a line of the table: the answer, the closures, the entries, the passes
-abbrev Line : Type 0
+abbrev pub Line : Type 0
 Line = Answer × ℕ × ℕ × ℕ
 
-abbrev line : List ℕ → ℕ → ℕ → Line
-line bs limit room =
-    let r = test 8 bs limit room .report in
+abbrev pub lineOf : Outcome → Line
+lineOf o =
+    let r = o .report in
     (r .answer, r .closures, r .entries, r .passes)
+
+abbrev line : List ℕ → ℕ → ℕ → Line
+line bs limit room = lineOf (test 8 bs limit room)
 
 pub K :
     _≡_ {A = List Line}

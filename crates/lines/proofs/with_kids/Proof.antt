@@ -7,7 +7,8 @@ use borrow.Author.Needs.{needs}
 use Rattle.lines.specs.Lines.{spaced}
 use Rattle.lines.specs.Pieces.{Follows}
 use Rattle.lines.proofs.Pieces.{nothing, then, within}
-use Rattle.lines.proofs.Spaced.{one-more, take-min}
+use Rattle.numbers.proofs.Parts.{take-clipped}
+use Rattle.lines.proofs.Spaced.{one-more}
 use Rattle.lines.proofs.with_kids.Statement.{statement}
 use Rattle.lines.proofs.with_kids.Tie as tie
 
@@ -62,7 +63,7 @@ returns c =
     let n = at-start .args .n in
     let seven : length kids ≡ 7 = search needs in
     let all : c .before .loop .i ≡ min n (length kids) = omega arith in
-    within (simp (all, take-min n kids)) (omega arith) (then (c .before .before .with-word .ensures) (c .before .loop .inv .1))
+    within (simp (take-clipped n (c .before .loop .i) kids all)) (omega arith) (then (c .before .before .with-word .ensures) (c .before .loop .inv .1))
 
 pub with-kids-spec : {M : Type 1} → statement M
 with-kids-spec =
