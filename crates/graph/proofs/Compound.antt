@@ -151,11 +151,6 @@ placed-leads w o g (suc c) rows l i j =
 
 -- ---- all subtrees' pairs
 
-pub length-placed-from : (w o : ℕ) (gs rows : List ℕ) → length (placedFrom w o gs rows) ≡ length rows
-unfolding placedFrom
-length-placed-from w o [] rows = refl
-length-placed-from w o (g ∷ gs) rows = length-placed-from w (suc o) gs (placed w o g rows) ∙ length-placed w o g w rows
-
 -- the subtrees are the first, and those after it from the next occurrence on
 next : (o k : ℕ) → suc o + k ≡ o + suc k
 next o k = omega arith

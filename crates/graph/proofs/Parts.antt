@@ -3,7 +3,7 @@
 use mathlib.Core.Path.{_≡_, refl, sym, ap, ap₂, _∙_}
 use mathlib.Core.List.{List, [], _∷_, _++_, append-nil, List·Memᴰ·head, List·Memᴰ·tail}
 use Prim.Native.Nat.{ℕ, zero, suc, _+_, _*_, _%_, _^_, _≤_, _<_}
-use native.Mathlib.Nat.{add-zero, mul-suc, mul-le-mul-left}
+use native.Mathlib.Nat.{mul-suc, mul-le-mul-left}
 use native.Mathlib.Decide.{decLe}
 use native.Mathlib.Numerals.{one-add}
 use native.Mathlib.Omega.{arith}
@@ -11,7 +11,7 @@ use lib.Bits.{bitOr}
 use lib.ListN.{length, getD, set, take, drop, replicate, length-take, length-replicate, drop-of-length-le}
 use lib.Seq.{getD-take, take-set-lt, take-at, take-all, length-take-le}
 use Rattle.grammar.specs.declared.Edge.{Edge}
-use Rattle.graph.specs.Rows.{node, joinAt, link, own, pairsFrom, placedTo, placed, placedFrom, compound, closure, closedFirst, hasCircle, rootTo, rootGraph}
+use Rattle.graph.specs.Rows.{node, joinAt, link, own, pairsFrom, placedTo, placed, placedFrom, compound, closure, closedFirst, rootTo, rootGraph}
 use Rattle.graph.specs.Compound.{EdgesWithin}
 use Rattle.graph.proofs.Turns.{link-there, length-link, length-closure}
 use Rattle.graph.proofs.Compound.{NodesBelow, nodes-below}
@@ -57,16 +57,6 @@ take-placed-from w o m (g ∷ gs) rows l =
     take-placed-from w (suc o) m gs (placed w o g rows) (omega (arith, ap (λ (n : ℕ). w * n) e))
     ∙ ap (placedFrom w (suc o) gs) (take-placed w o g m w rows (omega (arith, mul-suc w o, mul-le-mul-left w here)))
 
--- one subtree more, at the next occurrence
-pub placed-from-more : (w o : ℕ) (gs : List ℕ) (g : ℕ) (rows : List ℕ)
-    → placedFrom w o (gs ++ (g ∷ [])) rows ≡ placed w (o + length gs) g (placedFrom w o gs rows)
-unfolding placedFrom
-placed-from-more w o [] g rows = ap (λ (n : ℕ). placed w n g rows) (sym (add-zero o))
-placed-from-more w o (h ∷ gs) g rows =
-    let e : suc o + length gs ≡ o + suc (length gs) = omega arith in
-    placed-from-more w (suc o) gs g (placed w o h rows)
-    ∙ ap (λ (n : ℕ). placed w n g (placedFrom w (suc o) gs (placed w o h rows))) e
-
 take-replicate : {A : Type 0} (x : A) (m k : ℕ) → m ≤ k → take m (replicate k x) ≡ replicate m x
 take-replicate x zero k l = refl
 take-replicate x (suc m) zero l = absurd (omega arith)
@@ -95,37 +85,14 @@ root-closed w m rows l = sym (root-part w m w (closedFirst m rows) l) ∙ ap (ro
 
 -- ---- the compound graph in a table of k rows: what the code has, and what the definition says
 
-abbrev pub nodesOver : ℕ → List ℕ → ℕ
-nodesOver w graphs = w * suc (length graphs)
-
-abbrev pub tableOver : ℕ → ℕ → List Edge → List ℕ → List ℕ
-tableOver w k edges graphs = placedFrom w 1 graphs (own w edges (replicate k 0))
-
-module _ (w k : ℕ) (edges : List Edge) (graphs : List ℕ) (within : EdgesWithin w (length graphs) edges)
-    (room : nodesOver w graphs ≤ k) where
-  abbrev n : ℕ
-  n = nodesOver w graphs
-
-  abbrev table : List ℕ
-  table = tableOver w k edges graphs
-
-  pub table-compound : take n table ≡ compound w edges graphs
-  unfolding compound
-  table-compound =
-      let e : w * (1 + length graphs) ≡ n = ap (λ (m : ℕ). w * m) (one-add (length graphs)) in
-      let bare : List ℕ = replicate k 0 in
-      take-placed-from w 1 n graphs (own w edges bare) (omega arith)
-      ∙ ap (placedFrom w 1 graphs)
-      (take-own w n edges bare (omega (arith, length-replicate {A = ℕ} k 0)) (nodes-below w (length graphs) edges within)
-      ∙ ap (own w edges) (take-replicate 0 n k room))
-
-  pub table-closure : take n (closedFirst n table) ≡ closure (compound w edges graphs)
-  table-closure = take-closed n table ∙ ap closure table-compound
-
-  pub table-circle : hasCircle (take n (closedFirst n table)) ≡ hasCircle (closure (compound w edges graphs))
-  table-circle = ap hasCircle table-closure
-
-  pub table-root : rootGraph w (closedFirst n table) ≡ rootGraph w (closure (compound w edges graphs))
-  table-root =
-      root-closed w n table (omega (arith, mul-suc w (length graphs)))
-      ∙ ap (λ (r : List ℕ). rootGraph w (closure r)) table-compound
+pub table-compound : (w k : ℕ) (edges : List Edge) (graphs : List ℕ) → EdgesWithin w (length graphs) edges → w * suc (length graphs) ≤ k
+    → take (w * suc (length graphs)) (placedFrom w 1 graphs (own w edges (replicate k 0))) ≡ compound w edges graphs
+unfolding compound
+table-compound w k edges graphs within room =
+    let n = w * suc (length graphs) in
+    let e : w * (1 + length graphs) ≡ n = ap (λ (m : ℕ). w * m) (one-add (length graphs)) in
+    let bare : List ℕ = replicate k 0 in
+    take-placed-from w 1 n graphs (own w edges bare) (omega arith)
+    ∙ ap (placedFrom w 1 graphs)
+    (take-own w n edges bare (omega (arith, length-replicate {A = ℕ} k 0)) (nodes-below w (length graphs) edges within)
+    ∙ ap (own w edges) (take-replicate 0 n k room))

@@ -4,7 +4,7 @@ use mathlib.Core.Path.{_≡_, sym, ap, _∙_, subst₂}
 use mathlib.Core.List.{List}
 use mathlib.Core.Logic.{⊎-elim, _↔_}
 use Prim.Native.Nat.{ℕ, zero, suc, _+_, _*_, _/_, _%_, _^_, _<_, max}
-use native.Mathlib.Nat.{add-comm, mul-comm, mul-suc, mod-lt, lt-of-lt-of-le, div-add-mod, div-lt-iff-lt-mul}
+use native.Mathlib.Nat.{add-comm, mul-comm, mul-suc, mod-lt, lt-of-lt-of-le}
 use native.Mathlib.Decide.{ℕ-discrete}
 use native.Mathlib.Omega.{arith}
 use lib.Arith.{digits-div, digits-mod}
@@ -13,7 +13,7 @@ use lib.ListN.{getD}
 use lib.Pow.{pow-mono, pow-pos, shl-lt}
 use Rattle.numbers.specs.Number.{bit}
 use Rattle.numbers.specs.Paths.{Plus, Leads}
-use Rattle.numbers.proofs.Bits.{bit-lt, bit-zero, bit-or, one-of, same-bit, block-bit, block-made, same-bits}
+use Rattle.numbers.proofs.Bits.{bit-lt, bit-zero, bit-or, one-of, block-bit, block-made}
 use Rattle.graph.specs.Rows.{bits, closure, rootTo, rootGraph}
 use Rattle.graph.proofs.Closure.{closure-path}
 
@@ -25,23 +25,6 @@ one-pair w a b c d lb ld e =
       sym (digits-div a lb) ∙ ap (λ (x : ℕ). x / w) f ∙ digits-div c ld,
       sym (digits-mod a lb) ∙ ap (λ (x : ℕ). x % w) f ∙ digits-mod c ld,
     )
-
--- and a number below w * w is that of a pair
-pair-of : (w m : ℕ) → m < w * w → (a : ℕ) × (b : ℕ) × (a < w) × (b < w) × (m ≡ w * a + b)
-pair-of zero m l = absurd (omega arith)
-pair-of (suc w) m l =
-    let p : 0 < suc w = omega arith in
-    (m / suc w, m % suc w, div-lt-iff-lt-mul p .1 l, mod-lt m p, sym (div-add-mod m (suc w)))
-
--- so a graph is known by its pairs
-pub same-pairs : (w g h : ℕ) → g < 2 ^ (w * w) → h < 2 ^ (w * w)
-    → ((a b : ℕ) → a < w → b < w → (bit (w * a + b) g ≡ 1) ↔ (bit (w * a + b) h ≡ 1)) → g ≡ h
-same-pairs w g h lg lh f = same-bits (w * w) g h lg lh at
-  where
-    at : (j : ℕ) → j < w * w → bit j g ≡ bit j h
-    at j l =
-        let p = pair-of w j l in
-        same-bit (bit j g) (bit j h) (bit-lt j g) (bit-lt j h) (rw (p .4) (f (p .0) (p .1) (p .2) (p .3)))
 
 -- ---- the pairs of the root's graph
 

@@ -1,4 +1,4 @@
--- What is shown of 01's passes, over any system W, any list of productions ps, any closure limit L and any room R. Assumes nothing.
+-- What is shown of the rules' passes, over any system W, any list of productions ps, any closure limit L and any room R. Assumes nothing.
 use mathlib.Core.Path.{_≡_}
 use mathlib.Core.List.{List}
 use Prim.Native.Nat.{ℕ, _<_, _≤_}
@@ -49,10 +49,4 @@ VerdictStands =
 abbrev pub MoreRoom : Type 0
 MoreRoom =
     (W : System) (ps : List ℕ) (L R M S : ℕ) → L ≤ M → R ≤ S → Verdict (passes W L R ps .report .answer)
-    → passes W M S ps ≡ passes W L R ps
-
--- so there is only one
-abbrev pub OneVerdict : Type 0
-OneVerdict =
-    (W : System) (ps : List ℕ) (L R M S : ℕ) → Verdict (passes W L R ps .report .answer) → Verdict (passes W M S ps .report .answer)
     → passes W M S ps ≡ passes W L R ps

@@ -1,4 +1,4 @@
--- What the theorems on runs ask of a way to store. 01's way keeps the list of entries, and step 4 looks for the same graph. Another may
+-- What the theorems on runs ask of a way to store. The rules' way keeps the list of entries, and step 4 looks for the same graph. Another may
 -- look for another graph there, and may retire entries: they stay, and join no later turn. Assumes nothing.
 use mathlib.Core.Path.{_≡_}
 use mathlib.Core.Bool.{true, false}
@@ -86,16 +86,3 @@ pub record Lawful {W : System} (M : Mode W) : Type 1 where
   pub begins : Sound (M .start)
   pub judges : (p : ℕ) (c : List ℕ) (s : M .Store) → Sound s → Shown M Sound p c s (M .judge p c s)
   pub differ : (s : M .Store) → Sound s → Different (M .entries s)
-
--- each graph of the first list makes that of the second needless
-abbrev pub Above : (ℕ → ℕ → Type 0) → List ℕ → List ℕ → Type 0
-Above Over [] [] = Unit {0}
-Above Over [] (g ∷ gs) = ⊥
-Above Over (h ∷ hs) [] = ⊥
-Above Over (h ∷ hs) (g ∷ gs) = Over h g × Above Over hs gs
-
--- and, for trees: where the graphs below make others needless, so does the graph at the root, and no circle is lost
-pub record Monotone {W : System} (M : Mode W) : Type 0 where
-  pub through : (f g h : ℕ) → M .Over f g → M .Over g h → M .Over f h
-  pub graphs : (p : ℕ) (hs gs : List ℕ) → Above (M .Over) hs gs → M .Over (W .graph p hs) (W .graph p gs)
-  pub circles : (p : ℕ) (hs gs : List ℕ) → Above (M .Over) hs gs → W .circle p gs ≡ true → W .circle p hs ≡ true

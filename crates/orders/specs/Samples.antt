@@ -1,4 +1,4 @@
--- The grammars A and B of 01 as systems, with the graphs that 01 gives: 0 → 1, 1 → nothing, 1 → nothing. Assumes nothing.
+-- The grammars A and B of the rules as systems, with the graphs that the rules give: 0 → 1, 1 → nothing, 1 → nothing. Assumes nothing.
 use mathlib.Core.Bool.{false}
 use mathlib.Core.List.{List, [], _∷_}
 use Prim.Native.Nat.{ℕ, zero, suc}

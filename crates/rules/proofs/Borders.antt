@@ -1,7 +1,6 @@
 -- Both sides of the table's borders. Assumes nothing.
 use mathlib.Core.Path.{_≡_, refl}
-use mathlib.Core.List.{List, [], _∷_, _++_, map}
-use Prim.Native.Nat.{ℕ}
+use mathlib.Core.List.{[], _∷_, _++_, map}
 use lib.ListN.{take, set}
 use Rattle.grammar.specs.Refusal.{refusal}
 use Rattle.rules.specs.Test.{opened}

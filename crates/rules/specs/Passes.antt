@@ -35,7 +35,7 @@ andThen (stopped a root s) next = stopped a root s
 
 -- ---- the answer's numbers
 
--- 01's number as a case of the answer
+-- the rules' number as a case of the answer
 unfoldable pub numbered : ℕ → Answer
 numbered k = cond (eqb k 8) OutOfSteps (cond (eqb k 9) OutOfRoom (Refused k))
 

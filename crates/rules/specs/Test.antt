@@ -4,7 +4,6 @@ use mathlib.Core.List.{List}
 use Prim.Native.Nat.{ℕ}
 use lib.Dec.{eqb}
 use lib.ListN.{length}
-use Rattle.numbers.specs.Number.{bit}
 use Rattle.numbers.specs.Lists.{both, every, keep, below, upFrom}
 use Rattle.grammar.specs.Grammar.{Grammar, production, rights, symbolAt, edgesOf}
 use Rattle.grammar.specs.Table.{symbolIn, productionIn, edgeIn, edgesIn, grammarOf}
