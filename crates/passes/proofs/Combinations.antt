@@ -1,9 +1,8 @@
 -- Combinations in parts: one level of right symbols, whose candidates are met in ascending order. Assumes nothing.
 use mathlib.Core.Path.{_≡_, refl, sym, ap, _∙_}
-use mathlib.Core.Bool.{Bool, true, false, _||_}
-use mathlib.Core.List.{List, [], _∷_, _++_, map, append-assoc, append-nil}
+use mathlib.Core.Bool.{Bool, true, false, _||_, false≢true}
+use mathlib.Core.List.{List, [], _∷_, _++_, map, append-assoc, append-nil, map-append}
 use Prim.Native.Nat.{ℕ, zero, suc, _+_, _≤_, _<_}
-use native.Mathlib.Nat.{zero-add}
 use native.Mathlib.Omega.{arith}
 use native.Mathlib.Numerals.{add-one}
 use lib.Dec.{eqb}
@@ -11,13 +10,14 @@ use lib.ListN.{length, getD, set, take, drop, length-map, length-take, drop-of-l
 use lib.Seq.{drop-cons, getD-take, take-suc-set}
 use borrow.Author.Tests.{eq-eqb, ne-eqb}
 use Rattle.numbers.specs.Lists.{both, upFrom, keep}
-use Rattle.numbers.proofs.Keeping.{upFrom-split, keep-append}
+use Rattle.numbers.proofs.Keeping.{up-more, keep-append}
+use Rattle.numbers.proofs.Members.{at-map}
 use Rattle.rules.specs.declared.Entry.{Entry}
 use Rattle.passes.specs.declared.Task.{Task}
 use Rattle.rules.specs.Passes.{entry, candidates, prefixed, combinations}
 use Rattle.passes.specs.Slices.{Slices}
 use Rattle.passes.specs.Follow.{entryAt, entriesTo, under, combosFrom, occursIn, allIn}
-use Rattle.passes.proofs.Entries.{map-append, at-map, length-entries, entry-at}
+use Rattle.passes.proofs.Entries.{length-entries, entry-at}
 
 -- ---- lists in parts
 
@@ -49,7 +49,7 @@ module _ (es : List Entry) (y : ℕ) (chosen : List ℕ) (rest : List (List ℕ)
   pub between-split : (n m : ℕ) → between 0 (n + m) ≡ between 0 n ++ between n m
   unfolding between
   between-split n m =
-      ap (λ (l : List ℕ). under chosen (prefixed (keep test l) rest)) (upFrom-split 0 n m ∙ ap (λ (k : ℕ). upFrom 0 n ++ upFrom k m) (zero-add n))
+      ap (λ (l : List ℕ). under chosen (prefixed (keep test l) rest)) (sym (up-more n m))
       ∙ ap (λ (l : List ℕ). under chosen (prefixed l rest)) (keep-append test (upFrom 0 n) (upFrom n m))
       ∙ ap (under chosen) (prefixed-append (keep test (upFrom 0 n)) (keep test (upFrom n m)) rest)
       ∙ under-append chosen (prefixed (keep test (upFrom 0 n)) rest) (prefixed (keep test (upFrom n m)) rest)
@@ -98,11 +98,6 @@ module _ (k : Task) (es : List Entry) (n : ℕ) (picked : List ℕ) where
 
 -- ---- a right symbol with no entry leaves no combination
 
-false≢true : false ≡ true → ⊥
-false≢true h =
-    let z : _≡_ {A = ℕ} 0 1 = cc in
-    omega arith
-
 none-of : (a b : Bool) → (a || b) ≡ false → (a ≡ false) × (b ≡ false)
 none-of true b h = absurd (false≢true (sym h))
 none-of false b h = (refl, h)
@@ -127,7 +122,7 @@ module _ (σ : Slices) (first y : ℕ) where
       let w = none-of (eqb (getD (σ .symbols) n 0) y) (occursIn (σ .symbols) y n) h in
       let f : ℕ → Bool = λ i. eqb (entry (entriesTo σ first) i .symbol) y in
       let e : f n ≡ false = ap (λ (x : Entry). eqb (x .symbol) y) (entry-at σ first n l) ∙ w .0 in
-      ap (keep f) (ap (upFrom 0) (sym (add-one n)) ∙ upFrom-split 0 n 1 ∙ ap (λ (i : ℕ). upFrom 0 n ++ upFrom i 1) (zero-add n))
+      ap (keep f) (ap (upFrom 0) (sym (add-one n)) ∙ sym (up-more n 1))
       ∙ keep-append f (upFrom 0 n) (n ∷ [])
       ∙ rw (keep-none n (omega arith) (w .1), e)
 
@@ -158,7 +153,7 @@ combos-none k σ picked l h =
     let rs = take (k .count) (k .rights) in
     let long : length rs ≡ k .count = omega (arith, length-take (k .count) (k .rights)) in
     let here : getD (map (candidates es) rs) (w .0) [] ≡ [] =
-    at-map (candidates es) [] rs (w .0) (omega (arith, w .1, long))
+    at-map (candidates es) 0 [] rs (w .0) (omega (arith, w .1, long))
     ∙ ap (candidates es) (getD-take (k .count) (k .rights) (w .0) 0 (w .1))
     ∙ candidates-none σ (k .first) (getD (k .rights) (w .0) 0) (w .2) in
     rw (combinations-none (map (candidates es) rs) (w .0) (omega (arith, w .1, long, length-map rs (candidates es))) here)

@@ -1,18 +1,21 @@
 -- The passes: from the state that was reached to the outcome, and what it tells. Assumes nothing.
 use mathlib.Core.Path.{_≡_, refl, sym, ap, _∙_}
 use mathlib.Core.Bool.{true, false}
-use mathlib.Core.List.{List}
+use mathlib.Core.List.{List, map}
 use Prim.Native.Nat.{ℕ, suc, _+_, _-_, _*_, _≤_}
 use native.Mathlib.Nat.{le-refl, sub-zero}
 use native.Mathlib.Numerals.{add-one}
 use native.Mathlib.Omega.{arith}
+use lib.ListN.{length, getD}
 use borrow.Author.Tests.{eq-eqb, ne-eqb}
+use Rattle.numbers.specs.Lists.{written}
 use Rattle.rules.specs.declared.Answer.{Answer}
 use Rattle.rules.specs.declared.Answer.the-variants.{Noncircular}
+use Rattle.rules.specs.declared.Entry.{Entry}
 use Rattle.passes.specs.declared.Run.{Run}
 use Rattle.rules.specs.Passes.{System, State, Ran, going, stopped, andThen, noRoot, pass, Outcome, outcome, after, passesFrom, passes}
 use Rattle.passes.specs.Slices.{Slices, roomOf, Tells}
-use Rattle.passes.specs.Follow.{reportOf, entryAt, entriesTo, stateOf, ranOf, Kept, Follows, Roomy}
+use Rattle.passes.specs.Follow.{reportOf, entryAt, entriesTo, stateOf, ranOf, Beyond, Kept, Follows, Roomy}
 use Rattle.passes.proofs.Entries.{length-entries, field-taken, kids-taken, written-over}
 use Rattle.passes.proofs.Following.{kept-same, kept-then, going-by, stopped-by}
 use Rattle.passes.proofs.Passing.{through}
@@ -42,22 +45,18 @@ tells o room limit σ r τ q a root begun e k h =
       report =
           ap (λ (n : ℕ). record { answer = a; closures = limit - q .left; entries = n; passes = begun; root = root })
           (sym (length-entries τ (q .stored)));
-      symbols =
-          written-over (q .stored) _ (σ .symbols) (τ .symbols)
-          (field-taken τ (λ x. x .symbol) (τ .symbols) (λ i. refl) (q .stored) (omega (arith, h .stored, h .symbols)))
-          (omega (arith, h .stored, h .symbols)) (k .symbols);
-      graphs =
-          written-over (q .stored) _ (σ .graphs) (τ .graphs)
-          (field-taken τ (λ x. x .graph) (τ .graphs) (λ i. refl) (q .stored) (omega (arith, h .stored, h .graphs)))
-          (omega (arith, h .stored, h .graphs)) (k .graphs);
+      symbols = field (λ x. x .symbol) (σ .symbols) (τ .symbols) (λ i. refl) (omega (arith, h .stored, h .symbols)) (k .symbols);
+      graphs = field (λ x. x .graph) (σ .graphs) (τ .graphs) (λ i. refl) (omega (arith, h .stored, h .graphs)) (k .graphs);
       productions =
-          written-over (q .stored) _ (σ .productions) (τ .productions)
-          (field-taken τ (λ x. x .production) (τ .productions) (λ i. refl) (q .stored) (omega (arith, h .stored, h .productions)))
-          (omega (arith, h .stored, h .productions)) (k .productions);
+          field (λ x. x .production) (σ .productions) (τ .productions) (λ i. refl) (omega (arith, h .stored, h .productions)) (k .productions);
       kids =
           written-over (7 * q .stored) _ (σ .kids) (τ .kids) (kids-taken τ (q .stored) (omega (arith, h .stored, h .kids)))
           (omega (arith, h .stored, h .kids)) (k .kids);
     })
+  where
+    field : (f : Entry → ℕ) (before after : List ℕ) → ((i : ℕ) → f (entryAt τ i) ≡ getD after i 0) → q .stored ≤ length after
+        → Beyond (q .stored) before after → after ≡ written (map f (entriesTo τ (q .stored))) before
+    field f before after at l b = written-over (q .stored) _ before after (field-taken τ f after at (q .stored) l) l b
 
 -- ---- a pass more, or the end
 

@@ -1,7 +1,7 @@
 -- The entries in the slices: how many they are, what each of them holds, and a store of one more. Assumes nothing.
 use mathlib.Core.Path.{_≡_, refl, sym, ap, ap₂, _∙_}
 use mathlib.Core.Bool.{Bool, true, false, _||_, or-assoc, or-comm, or-false}
-use mathlib.Core.List.{List, [], _∷_, _++_, map, append-assoc, append-nil}
+use mathlib.Core.List.{List, [], _∷_, _++_, map, append-assoc, append-nil, map-append}
 use mathlib.Core.Logic.{⊎-elim}
 use Prim.Native.Nat.{ℕ, zero, suc, _+_, _*_, _-_, _≤_, _<_}
 use native.Mathlib.Nat.{eq-or-lt-of-le, lt-suc-self}
@@ -21,15 +21,6 @@ use Rattle.passes.specs.Follow.{entryAt, entriesTo, seenIn, occursIn, al
 
 pub length-snoc {ℓ} : {A : Type ℓ} (xs : List A) (x : A) → length (xs ++ (x ∷ [])) ≡ suc (length xs)
 length-snoc xs x = length-append xs (x ∷ []) ∙ add-one (length xs)
-
-pub map-append {ℓ κ} : {A : Type ℓ} {B : Type κ} (f : A → B) (a b : List A) → map f (a ++ b) ≡ map f a ++ map f b
-map-append f [] b = refl
-map-append f (x ∷ a) b = ap (λ (l : List _). f x ∷ l) (map-append f a b)
-
-pub at-map : {A : Type 0} (f : ℕ → A) (d : A) (xs : List ℕ) (i : ℕ) → i < length xs → getD (map f xs) i d ≡ f (getD xs i 0)
-at-map f d [] i l = absurd (omega arith)
-at-map f d (x ∷ xs) zero l = refl
-at-map f d (x ∷ xs) (suc i) l = at-map f d xs i (omega arith)
 
 module _ (σ : Slices) where
   pub length-entries : (n : ℕ) → length (entriesTo σ n) ≡ n
@@ -142,6 +133,13 @@ drop-sets : (vs l : List ℕ) (i n : ℕ) → i + length vs ≤ n → drop n (se
 drop-sets [] l i n h = refl
 drop-sets (v ∷ vs) l i n h = drop-sets vs (set l i v) (suc i) n (omega arith) ∙ drop-set-lt n l i v (omega arith)
 
+-- nothing is changed past what is stored
+pub set-beyond : (l : List ℕ) (n v : ℕ) → Beyond (suc n) l (set l n v)
+set-beyond l n v = record { long = length-set l n v; rest = drop-set-lt (suc n) l n v (omega arith) }
+
+pub sets-beyond : (l : List ℕ) (i : ℕ) (vs : List ℕ) (n : ℕ) → i + length vs ≤ n → Beyond n l (sets l i vs)
+sets-beyond l i vs n h = record { long = length-sets l i vs; rest = drop-sets vs l i n h }
+
 part-set : (l : List ℕ) (a n i v : ℕ) → a + n ≤ i → take n (drop a (set l i v)) ≡ take n (drop a l)
 part-set l a n i v h =
     let e : a + (i - a) ≡ i = omega arith in
@@ -193,26 +191,6 @@ module _ (σ : Slices) (n : ℕ) (e : Entry) where
     pub put-entries : entriesTo (put σ n e) (suc n) ≡ entriesTo σ n ++ (e ∷ [])
     unfolding entriesTo
     put-entries = ap₂ (λ (es : List Entry) (x : Entry). es ++ (x ∷ [])) (put-stay n (omega arith)) put-here
-
-    pub put-symbols : Beyond (suc n) (σ .symbols) (set (σ .symbols) n (e .symbol))
-    put-symbols = record { long = length-set (σ .symbols) n (e .symbol); rest = drop-set-lt (suc n) (σ .symbols) n (e .symbol) (omega arith) }
-
-    pub put-graphs : Beyond (suc n) (σ .graphs) (set (σ .graphs) n (e .graph))
-    put-graphs = record { long = length-set (σ .graphs) n (e .graph); rest = drop-set-lt (suc n) (σ .graphs) n (e .graph) (omega arith) }
-
-    pub put-productions : Beyond (suc n) (σ .productions) (set (σ .productions) n (e .production))
-    put-productions =
-        record {
-          long = length-set (σ .productions) n (e .production);
-          rest = drop-set-lt (suc n) (σ .productions) n (e .production) (omega arith);
-        }
-
-    pub put-kids : Beyond (7 * suc n) (σ .kids) (sets (σ .kids) (7 * n) (e .kids))
-    put-kids =
-        record {
-          long = length-sets (σ .kids) (7 * n) (e .kids);
-          rest = drop-sets (e .kids) (σ .kids) (7 * n) (7 * suc n) (omega arith);
-        }
 
 -- ---- the stored entries, written over the front of the slices
 

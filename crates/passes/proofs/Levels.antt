@@ -7,7 +7,7 @@ use Prim.Native.Nat.{ℕ, suc, _+_, _-_, _≤_, _<_}
 use native.Mathlib.Nat.{eq-or-lt-of-le}
 use native.Mathlib.Numerals.{add-one}
 use native.Mathlib.Omega.{arith}
-use lib.ListN.{length, getD, set, take, replicate, length-take}
+use lib.ListN.{length, getD, set, take, replicate}
 use lib.Seq.{append-snoc, length-take-le, take-suc-set, getD-set-same, getD-set-other, set-append-seam}
 use Rattle.rules.specs.declared.Entry.{Entry}
 use Rattle.passes.specs.declared.Run.{Run}
@@ -18,7 +18,7 @@ use Rattle.passes.specs.Follow.{entryAt, entriesTo, Follows, Ready, Pick
 use Rattle.passes.proofs.Entries.{length-snoc, length-entries, entry-at}
 use Rattle.passes.proofs.Combinations.{between, between-split, between-hit, between-other, between-none, later, combos-leaf, combos-level, combos-next}
 use Rattle.passes.proofs.Following.{follows-nothing, follows-still, follows-then, follows-same, tries-append, tries-one, tries-none}
-use Rattle.passes.proofs.Six.{length-seven}
+use Rattle.passes.proofs.Six.{length-picked}
 
 -- the rule of a task over some combinations
 abbrev pub over : Task → List ℕ → List (List ℕ) → ℕ → State → Ran
@@ -126,25 +126,25 @@ seven-set a e h =
     rw (m, m′) (set-append-seam a 0 (replicate (6 - length a) 0) e ∙ sym (append-snoc a e (replicate (6 - length a) 0)))
 
 module _ (k : Task) (n : ℕ) (picked : List ℕ) (e : ℕ) (few : n < 7) (slots : Picked k n picked) where
-  pub length-picked : length picked ≡ 7
-  length-picked = ap length (slots .slots) ∙ length-seven (take n picked) (omega (arith, length-take n picked))
+  seven-picked : length picked ≡ 7
+  seven-picked = length-picked k n picked (omega arith) slots
 
   long : length (take n picked) ≡ n
-  long = length-take-le n picked (omega (arith, length-picked))
+  long = length-take-le n picked (omega (arith, seven-picked))
 
   set-slots : set picked n e ≡ seven (take (n + 1) (set picked n e))
   set-slots =
       ap (λ (l : List ℕ). set l n e) (slots .slots)
       ∙ ap (λ (i : ℕ). set (seven (take n picked)) i e) (sym long)
       ∙ seven-set (take n picked) e (omega (arith, long))
-      ∙ ap seven (sym (take-suc-set picked n e (omega (arith, length-picked))))
+      ∙ ap seven (sym (take-suc-set picked n e (omega (arith, seven-picked))))
       ∙ ap (λ (i : ℕ). seven (take i (set picked n e))) (sym (add-one n))
 
   set-below : e < k .first → (i : ℕ) → i < n + 1 → getD (set picked n e) i 0 < k .first
   set-below l i h =
       ⊎-elim
       (λ q. let z : i ≡ n = omega (arith, q) in
-      rw (z, getD-set-same picked n e 0 (omega (arith, length-picked))) l)
+      rw (z, getD-set-same picked n e 0 (omega (arith, seven-picked))) l)
       (λ q. rw (getD-set-other picked n i e 0 (omega (arith, q))) (slots .below i (omega (arith, q))))
       (eq-or-lt-of-le h)
 

@@ -8,5 +8,6 @@ pub mod Systems
 pub mod Tables
 pub mod Passing
 pub mod Ending
+pub mod Told
 pub mod Testing
 pub mod OneReading

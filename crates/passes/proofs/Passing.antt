@@ -1,20 +1,16 @@
 -- A pass: one production after the other. Assumes nothing.
-use mathlib.Core.Path.{_≡_, sym, ap, _∙_}
+use mathlib.Core.Path.{_≡_, ap, _∙_}
 use mathlib.Core.Bool.{false}
 use mathlib.Core.List.{List, [], _∷_, _++_}
 use Prim.Native.Nat.{ℕ, _+_, _-_, _≤_}
-use native.Mathlib.Nat.{zero-add}
 use native.Mathlib.Omega.{arith}
 use Rattle.numbers.specs.Lists.{upFrom}
-use Rattle.numbers.proofs.Keeping.{upFrom-split}
+use Rattle.numbers.proofs.Keeping.{up-more}
 use Rattle.passes.specs.declared.Run.{Run}
 use Rattle.rules.specs.Passes.{System, State, Ran, going, turn, pass}
 use Rattle.passes.specs.Slices.{Slices}
 use Rattle.passes.specs.Follow.{Follows}
 use Rattle.passes.proofs.Following.{follows-nothing, follows-still, follows-then, follows-same, pass-append, pass-one, pass-none}
-
-up-more : (n m : ℕ) → upFrom 0 n ++ upFrom n m ≡ upFrom 0 (n + m)
-up-more n m = sym (upFrom-split 0 n m ∙ ap (λ (i : ℕ). upFrom 0 n ++ upFrom i m) (zero-add n))
 
 module _ (W : System) (room : ℕ) where
   -- the rule of a pass over some productions

@@ -1,12 +1,12 @@
 -- One combination: the verdict by its tests, and the six steps by the verdict. Assumes nothing.
 use mathlib.Core.Path.{_≡_, refl, sym, ap, ap₂, _∙_}
-use mathlib.Core.Bool.{Bool, true, false}
+use mathlib.Core.Bool.{Bool, true, false, false≢true}
 use mathlib.Core.List.{List}
 use Prim.Native.Nat.{ℕ, zero, suc, _+_, _-_, _*_, _≤_, _<_}
 use native.Mathlib.Numerals.{add-one}
 use native.Mathlib.Omega.{arith}
 use lib.Dec.{leb, eqb}
-use lib.ListN.{length, getD, take, replicate, length-append, length-take, length-replicate}
+use lib.ListN.{length, getD, take, length-take}
 use lib.Seq.{getD-take}
 use borrow.Author.Tests.{le-leb, lt-leb, ne-eqb, eqb-true, eqb-false}
 use Rattle.rules.specs.declared.Answer.the-variants.{Circular, OutOfSteps, OutOfRoom}
@@ -15,10 +15,11 @@ use Rattle.passes.specs.declared.Run.{Run}
 use Rattle.passes.specs.declared.Task.{Task}
 use Rattle.passes.specs.declared.Verdict.{Verdict}
 use Rattle.passes.specs.declared.Verdict.the-variants.{Steps, Circle, Known, Full, New}
-use Rattle.rules.specs.Passes.{State, Ran, going, stopped, andThen, numbered, seven, noRoot, known, six, counted, stored, graphs, try}
+use Rattle.rules.specs.Passes.{State, Ran, going, stopped, andThen, numbered, noRoot, known, six, counted, stored, graphs, try}
+use Rattle.rules.proofs.Stored.{length-seven}
 use Rattle.passes.specs.Slices.{Slices}
 use Rattle.passes.specs.Follow.{goesOn, stops, stateOf, ranOf, Follows, Ready, Picked, turnBy, systemBy, seenIn, graphsOf, verdict, judged}
-use Rattle.passes.proofs.Entries.{length-entries, seen-known, graphs-same, put, put-stay, put-entries, put-symbols, put-graphs, put-productions, put-kids}
+use Rattle.passes.proofs.Entries.{length-entries, seen-known, graphs-same, put, put-stay, put-entries, set-beyond, sets-beyond}
 use Rattle.passes.proofs.Following.{kept-same, going-by}
 
 -- the verdict from the answers of the four tests
@@ -47,11 +48,6 @@ stores Circle = false
 stores Known = false
 stores Full = false
 stores (New graph) = true
-
-false≢true : false ≡ true → ⊥
-false≢true h =
-    let z : _≡_ {A = ℕ} 0 1 = cc in
-    omega arith
 
 counts-by : (a b c d : Bool) (g : ℕ) → counts (verdict a b c d g) ≡ true → a ≡ false
 unfolding verdict
@@ -95,10 +91,6 @@ six-acted false false true d g p root s t u = refl
 six-acted false false false true g p root s t u = refl
 six-acted false false false false g p root s t u = refl
 
-pub length-seven : (xs : List ℕ) → length xs ≤ 7 → length (seven xs) ≡ 7
-unfolding seven
-length-seven xs h = omega (arith, length-append xs (replicate (7 - length xs) 0), length-replicate {A = ℕ} (7 - length xs) 0)
-
 -- no closure is left exactly if as many as the limit have been made
 none-left : (limit left : ℕ) → left ≤ limit → leb limit (limit - left) ≡ eqb left 0
 none-left limit zero l = le-leb limit (limit - 0) (omega arith)
@@ -116,6 +108,9 @@ left-by : (k : Task) (rows : List ℕ) (p : ℕ) → systemBy (turnBy k rows) .l
 unfolding systemBy
 left-by k rows p = refl
 
+pub length-picked : (k : Task) (n : ℕ) (picked : List ℕ) → n ≤ 7 → Picked k n picked → length picked ≡ 7
+length-picked k n picked few slots = ap length (slots .slots) ∙ length-seven (take n picked) (omega (arith, length-take n picked))
+
 module _ (k : Task) (rows : List ℕ) (σ : Slices) (r : Run) (picked : List ℕ) (ready : Ready k σ r) (slots : Picked k (k .count) picked) where
   abbrev combo : List ℕ
   combo = take (k .count) picked
@@ -129,9 +124,8 @@ module _ (k : Task) (rows : List ℕ) (σ : Slices) (r : Run) (picked : List ℕ
   abbrev now : Verdict
   now = judged (turnBy k rows) (σ .symbols) (σ .graphs) r picked
 
-  pub length-picked : length picked ≡ 7
-  length-picked =
-      ap length (slots .slots) ∙ length-seven combo (omega (arith, length-take (k .count) picked, ready .few))
+  seven-picked : length picked ≡ 7
+  seven-picked = length-picked k (k .count) picked (ready .few) slots
 
   picked-below : (i : ℕ) → i < length combo → getD combo i 0 < r .stored
   picked-below i l =
@@ -218,10 +212,10 @@ module _ (k : Task) (rows : List ℕ) (σ : Slices) (r : Run) (picked : List ℕ
         record {
           kept =
               record {
-                symbols = rw add-one (put-symbols σ (r .stored) (new graph) in-symbols in-graphs in-productions in-kids length-picked);
-                graphs = rw add-one (put-graphs σ (r .stored) (new graph) in-symbols in-graphs in-productions in-kids length-picked);
-                productions = rw add-one (put-productions σ (r .stored) (new graph) in-symbols in-graphs in-productions in-kids length-picked);
-                kids = rw add-one (put-kids σ (r .stored) (new graph) in-symbols in-graphs in-productions in-kids length-picked);
+                symbols = rw add-one (set-beyond (σ .symbols) (r .stored) (k .symbol));
+                graphs = rw add-one (set-beyond (σ .graphs) (r .stored) graph);
+                productions = rw add-one (set-beyond (σ .productions) (r .stored) (k .number));
+                kids = sets-beyond (σ .kids) (7 * r .stored) picked (7 * (r .stored + 1)) (omega (arith, seven-picked));
                 stay = put-stay σ (r .stored) (new graph);
                 more = omega arith;
                 fits = omega (arith, room-left);
@@ -229,7 +223,7 @@ module _ (k : Task) (rows : List ℕ) (σ : Slices) (r : Run) (picked : List ℕ
               };
           ran =
               λ limit l. ap₂ (λ (es : List Entry) (n : ℕ). going (record { entries = es; made = n }))
-              (rw add-one (put-entries σ (r .stored) (new graph) in-symbols in-graphs in-productions in-kids length-picked))
+              (rw add-one (put-entries σ (r .stored) (new graph) in-symbols in-graphs in-productions in-kids seven-picked))
               (one-more limit l (is-left k rows (σ .symbols) (σ .graphs) r picked (ap counts h)))
               ∙ sym
               (ap (λ (x : Verdict). acted x (k .number) picked (stateOf limit σ r) (counted (stateOf limit σ r)) (λ g. stored (new g) (stateOf limit σ r))) h)

@@ -1,43 +1,17 @@
 -- Two systems that agree on a production give it the same turn. Assumes nothing.
 use mathlib.Core.Path.{_≡_, refl, ap, _∙_}
-use mathlib.Core.List.{List, [], _∷_, _++_, map}
-use Prim.Native.Nat.{ℕ, suc}
+use mathlib.Core.List.{List, [], _∷_, map}
+use Prim.Native.Nat.{ℕ}
 use lib.ListN.{length, take, length-map}
 use Rattle.rules.specs.declared.Entry.{Entry}
 use Rattle.passes.specs.declared.Run.{Run}
 use Rattle.passes.specs.declared.Task.{Task}
-use Rattle.rules.specs.Passes.{System, State, Ran, andThen, entry, graphs, candidates, prefixed, combinations, try, tries, turn}
+use Rattle.rules.specs.Passes.{System, State, Ran, andThen, entry, graphs, candidates, combinations, try, tries, turn}
+use Rattle.rules.proofs.Stored.{Each, each-combination}
 use Rattle.passes.specs.Slices.{Slices}
 use Rattle.passes.specs.Follow.{entriesTo, stateOf, Follows, turnBy, systemBy, under, combosFrom}
 use Rattle.passes.proofs.Following.{then-same, follows-here}
 use Rattle.passes.proofs.Levels.{over}
-
--- ---- every combination has a number for each right symbol
-
-Each : ℕ → List (List ℕ) → Type 0
-Each n [] = Unit {0}
-Each n (c ∷ cs) = (length c ≡ n) × Each n cs
-
-each-append : (n : ℕ) (a b : List (List ℕ)) → Each n a → Each n b → Each n (a ++ b)
-unfolding Each
-each-append n [] b h i = i
-each-append n (c ∷ a) b h i = (h .0, each-append n a b (h .1) i)
-
-each-cons : (n x : ℕ) (cs : List (List ℕ)) → Each n cs → Each (suc n) (map (λ c. x ∷ c) cs)
-unfolding Each
-each-cons n x [] h = tt
-each-cons n x (c ∷ cs) h = (ap suc (h .0), each-cons n x cs (h .1))
-
-each-prefixed : (n : ℕ) (xs : List ℕ) (rest : List (List ℕ)) → Each n rest → Each (suc n) (prefixed xs rest)
-unfolding Each prefixed
-each-prefixed n [] rest h = tt
-each-prefixed n (x ∷ xs) rest h =
-    each-append (suc n) (map (λ c. x ∷ c) rest) (prefixed xs rest) (each-cons n x rest h) (each-prefixed n xs rest h)
-
-each-combination : (xss : List (List ℕ)) → Each (length xss) (combinations xss)
-unfolding Each combinations
-each-combination [] = (refl, tt)
-each-combination (xs ∷ xss) = each-prefixed (length xss) xs (combinations xss) (each-combination xss)
 
 -- ---- the same tries
 
@@ -51,7 +25,7 @@ module _ (W U : System) (limit room p n : ℕ) (left : U .left p ≡ W .left p)
       rw (left, graph (graphs (s .entries) combo) l, circle (graphs (s .entries) combo) l)
 
   tries-same : (cs : List (List ℕ)) → Each n cs → (s : State) → tries U limit room p cs s ≡ tries W limit room p cs s
-  unfolding Each tries
+  unfolding tries
   tries-same [] h s = refl
   tries-same (c ∷ cs) h s =
       ap (λ (x : Ran). andThen x (tries U limit room p cs)) (try-same c (h .0) s)

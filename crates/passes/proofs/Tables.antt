@@ -1,17 +1,16 @@
 -- What a table that is not refused gives to a turn. Assumes nothing.
 use mathlib.Core.Path.{_≡_, refl, sym, ap, _∙_, subst}
-use mathlib.Core.Bool.{Bool, true, false, cond}
-use mathlib.Core.List.{List, [], _∷_, List·Memᴰ, List·Memᴰ·head, List·Memᴰ·tail, List·Memᴰ·not-nil, List·Memᴰ·cases-cons}
-use mathlib.Core.Logic.{⊎-elim}
-use Prim.Native.Nat.{ℕ, zero, suc, _*_, _≤_, _<_}
+use mathlib.Core.Bool.{true}
+use mathlib.Core.List.{List}
+use Prim.Native.Nat.{ℕ, suc, _*_, _≤_, _<_}
 use native.Mathlib.Decide.{decLe}
 use native.Mathlib.Nat.{le-refl}
 use native.Mathlib.Omega.{arith}
 use lib.Dec.{eqb}
-use lib.ListN.{length, getD, take, replicate, List·getD-eq-default}
+use lib.ListN.{length, take, replicate, List·getD-eq-default}
 use lib.Seq.{length-take-le}
 use borrow.Author.Tests.{eqb-true}
-use Rattle.numbers.specs.Lists.{keep}
+use Rattle.numbers.proofs.Members.{member-at, keep-mem}
 use Rattle.grammar.specs.declared.Node.{Node}
 use Rattle.grammar.specs.declared.Production.{Production}
 use Rattle.grammar.specs.Grammar.{Grammar, noSymbol, noProduction, symbol, production, symbolAt, edgesOf}
@@ -20,7 +19,7 @@ use Rattle.grammar.specs.Rules.{NodeThere}
 use Rattle.grammar.specs.Refusal.{refusal}
 use Rattle.grammar.specs.Reading.{runOf}
 use Rattle.grammar.specs.Valid.{Valid}
-use Rattle.grammar.proofs.Lookups.{production-there, productions-many, slots-are}
+use Rattle.grammar.proofs.Lookups.{productions-many}
 use Rattle.grammar.proofs.Valid.{valid}
 use Rattle.graph.specs.Rows.{own, placedFrom, compound, closure, hasCircle, rootGraph}
 use Rattle.graph.specs.Compound.{Within, EdgesWithin}
@@ -29,31 +28,11 @@ use Rattle.passes.specs.declared.Run.{Run}
 use Rattle.passes.specs.declared.Task.{Task}
 use Rattle.rules.specs.Passes.{turn}
 use Rattle.rules.specs.Test.{systemOf}
+use Rattle.rules.proofs.Stored.{slots-seven}
 use Rattle.passes.specs.Slices.{Slices}
 use Rattle.passes.specs.Follow.{entriesTo, Follows, Roomy, Ready, systemBy, taskOf, ownOf, combosFrom}
 use Rattle.passes.proofs.Levels.{over}
 use Rattle.passes.proofs.Systems.{Agrees, turn-follows}
-
--- ---- members of a list
-
-member-at : {A : Type 0} (d : A) (xs : List A) (i : ℕ) → i < length xs → List·Memᴰ (getD xs i d) xs
-member-at d [] i l = absurd (omega arith)
-member-at d (x ∷ xs) zero l = List·Memᴰ·head refl
-member-at d (x ∷ xs) (suc i) l = List·Memᴰ·tail (member-at d xs i (omega arith))
-
-member-kept : {A : Type 0} (f : A → Bool) (xs : List A) (x : A) → List·Memᴰ x (keep f xs) → List·Memᴰ x xs × (f x ≡ true)
-unfolding keep
-member-kept f [] x m = absurd (List·Memᴰ·not-nil m)
-member-kept {A} f (y ∷ xs) x m = go (f y) refl m (member-kept f xs x)
-  where
-    go : (b : Bool) → f y ≡ b → List·Memᴰ x (cond b (y ∷ keep f xs) (keep f xs))
-        → (List·Memᴰ x (keep f xs) → List·Memᴰ x xs × (f x ≡ true)) → List·Memᴰ x (y ∷ xs) × (f x ≡ true)
-    go true e m rest =
-        ⊎-elim
-        (λ q. (List·Memᴰ·head q, ap f q ∙ e))
-        (λ n. let w = rest n in (List·Memᴰ·tail (w .0), w .1))
-        (List·Memᴰ·cases-cons m)
-    go false e m rest = let w = rest m in (List·Memᴰ·tail (w .0), w .1)
 
 -- ---- a table that is not refused
 
@@ -88,7 +67,7 @@ module _ (bs : List ℕ) (good : refusal 8 bs ≡ 0) where
 
   edges-within : (p n : ℕ) → n ≡ production g p .n → EdgesWithin 8 n (edgesOf g p)
   edges-within p n e x m =
-      let w = member-kept (λ y. eqb (y .production) p) (g .edges) x m in
+      let w = keep-mem (λ y. eqb (y .production) p) (g .edges) m in
       let q : n ≡ production g (x .production) .n = e ∙ ap (λ (i : ℕ). production g i .n) (sym (eqb-true (x .production) p (w .1))) in
       let h = taken .edges x (w .0) in
       (node-within (production g (x .production)) n (x .source) q (h .source), node-within (production g (x .production)) n (x .target) q (h .target))
@@ -96,9 +75,6 @@ module _ (bs : List ℕ) (good : refusal 8 bs ≡ 0) where
   module _ (p : ℕ) (there : p < P bs) where
     few : production g p .n ≤ 7
     few = taken .productions (production g p) (member-at noProduction (g .productions) p (omega (arith, productions-many bs))) .few
-
-    slots : length (production g p .slots) ≡ 7
-    slots = ap (λ (x : Production). length (x .slots)) (production-there bs p there) ∙ ap length (slots-are bs _)
 
     -- the rows in a table of 64
     made : (gs : List ℕ) → length gs ≡ production g p .n → take (8 * suc (length gs)) (placedFrom 8 1 gs (own 8 (edgesOf g p) (replicate 64 0))) ≡ compound 8 (edgesOf g p) gs
@@ -110,7 +86,7 @@ module _ (bs : List ℕ) (good : refusal 8 bs ≡ 0) where
         record {
           left = refl;
           rights = refl;
-          long = length-take-le (production g p .n) (production g p .slots) (omega (arith, few, slots));
+          long = length-take-le (production g p .n) (production g p .slots) (omega (arith, few, slots-seven bs p));
           graph = λ gs h. ap (λ (l : List ℕ). rootGraph 8 (closure l)) (made gs h);
           circle = λ gs h. ap (λ (l : List ℕ). hasCircle (closure l)) (made gs h);
         }
@@ -125,7 +101,7 @@ module _ (bs : List ℕ) (good : refusal 8 bs ≡ 0) where
           roomy = h;
           first = le-refl (r .stored);
           few = few p there;
-          slots = slots p there;
+          slots = slots-seven bs p;
           going = on;
         })
 

@@ -1,19 +1,19 @@
 -- No table has more than 58,904 bytes: of a longer input the first 58,905 bytes are refused as the whole is. Assumes nothing.
-use mathlib.Core.Path.{_≡_, refl, sym, ap, _∙_}
+use mathlib.Core.Path.{_≡_, refl}
 use mathlib.Core.Bool.{Bool, true, false, cond}
-use mathlib.Core.List.{List, [], append-nil}
+use mathlib.Core.List.{List}
 use Prim.Native.Nat.{ℕ, _≤_, _<_}
 use native.Mathlib.Omega.{arith}
 use borrow.Author.Tests.{le-leb, leb-true, leb-false}
 use lib.Dec.{leb, eqb}
-use lib.ListN.{length, getD, take}
+use lib.ListN.{length, take}
 use lib.Seq.{length-take-le, take-all, getD-take}
 use Rattle.grammar.specs.Refusal.{countsOk, offsetsOk, refusal}
 use Rattle.grammar.proofs.Decided.{counts-decide, offsets-decide}
 use Rattle.rules.specs.declared.Answer.the-variants.{Refused}
 use Rattle.rules.specs.Passes.{Outcome, outcome, numbered, noRoot, empty}
 use Rattle.rules.specs.Test.{test}
-use Rattle.lines.specs.Lines.{firstLine, rest, printed}
+use Rattle.lines.specs.Lines.{rest, printed}
 use Rattle.print.specs.Texts.{kidsIn}
 
 same-counts : (n : ℕ) (bs : List ℕ) → 8 ≤ n → countsOk (take n bs) ≡ countsOk bs

@@ -1,7 +1,7 @@
 -- A local array of entries, by the element: its cell is a row of entries, and a row of n entries is the cell again. As a field of a struct
 -- its entries are related as tuples; what is known of it is what is known of the array itself, at the same machine values.
 -- Assumes `Given`.
-use mathlib.Core.Path.{_≡_, refl, sym, _∙_, ap}
+use mathlib.Core.Path.{_≡_, sym, _∙_}
 use Prim.Native.Nat.{ℕ}
 use mathlib.Core.List.{List, [], _∷_, map}
 use lib.Dec.{T}

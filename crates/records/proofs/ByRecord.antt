@@ -4,7 +4,7 @@ use mathlib.Core.Bool.{Bool, true, false, cond}
 use mathlib.Core.List.{List, [], _∷_}
 use Prim.Native.Nat.{ℕ, zero, suc, _+_, _-_, _≤_, _<_, zero-le}
 use native.Mathlib.Omega.{arith}
-use lib.ListN.{length, getD, drop, List·getD-append}
+use lib.ListN.{length, drop, List·getD-append}
 use lib.Seq.{getD-append-add, getD-drop}
 use borrow.Author.Tests.{ne-eqb}
 use Rattle.numbers.specs.Lists.{written}
@@ -14,7 +14,7 @@ use Rattle.rules.specs.declared.Report.{Report}
 use Rattle.rules.specs.Passes.{noEntry, entry}
 use Rattle.rules.specs.Test as rules
 use Rattle.records.specs.Records.{of, firstOf, roomOf, Tested}
-use Rattle.records.proofs.Outcome.{counted-test}
+use Rattle.rules.proofs.Stored.{counted-test}
 use Rattle.records.proofs.Writing.{length-written}
 
 -- ---- the row after a test

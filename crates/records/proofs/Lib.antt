@@ -3,6 +3,5 @@ pub mod Walking
 pub mod InMemory
 pub mod Arrays
 pub mod Writing
-pub mod Outcome
 pub mod ByRecord
 pub mod OneReading

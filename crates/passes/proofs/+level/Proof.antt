@@ -10,7 +10,8 @@ use lib.ListN.{length}
 use Rattle.passes.specs.Slices.{Slices, slices}
 use Rattle.passes.specs.Follow.{Kept, Roomy, Ready, Picked}
 use Rattle.passes.proofs.Following.{kept-roomy, kept-ready}
-use Rattle.passes.proofs.Levels.{Passed, level-leaf, level-start, level-hit, level-other, level-end, level-stop, picked-more, length-picked}
+use Rattle.passes.proofs.Levels.{Passed, level-leaf, level-start, level-hit, level-other, level-end, level-stop, picked-more}
+use Rattle.passes.proofs.Six.{length-picked}
 use borrow.Fn.Kinds.{In}
 use borrow.Fn.PlainCycle.{Measures, is, falls, and}
 use Rattle.passes.proofs.level.Reads as level
@@ -74,7 +75,7 @@ module _ (t : ℕ) (c : level-lts.At-loop (K t) (level-at t) level.Post level-In
   in-picked : start .args .at < length (start .args .picked)
   in-picked =
       let few : start .args .at < 7 = omega (arith, lower, ready .few) in
-      omega (arith, few, length-picked (start .args .task) (start .args .at) (start .args .picked) 0 few numbers)
+      omega (arith, few, length-picked (start .args .task) (start .args .at) (start .args .picked) (omega (arith, few)) numbers)
 
 level-try-one-requires : (t : ℕ) → level-lts.Need-try-one-requires (K t) (level-at t) level.Post level-Inv-loop level-μ-loop
 level-try-one-requires t c κs =

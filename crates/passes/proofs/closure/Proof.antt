@@ -5,7 +5,7 @@ use Prim.Native.Nat.{ℕ, suc, _≤_, _+_, _*_}
 use borrow.Author.Needs.{needs}
 use native.Mathlib.Omega.{arith}
 use lib.ListN.{length, getD, take, length-map, length-take}
-use Rattle.graph.specs.Rows.{placedFrom, closedFirst, closure, hasCircle, rootGraph}
+use Rattle.graph.specs.Rows.{placedFrom, closedFirst, hasCircle, rootGraph}
 use Rattle.graph.proofs.Parts.{take-closed, root-closed}
 use Rattle.passes.specs.declared.Task.{Task}
 use Rattle.passes.specs.Follow.{turnBy, systemBy, graphsOf}

@@ -9,7 +9,7 @@ use native.Mathlib.Omega.{arith}
 use lib.ListN.{length, getD, take, drop, length-map, length-take, drop-of-length-le}
 use lib.Seq.{drop-cons, getD-take}
 use Rattle.graph.specs.Rows.{placed, placedFrom}
-use Rattle.passes.proofs.Entries.{at-map}
+use Rattle.numbers.proofs.Members.{at-map}
 use Rattle.passes.proofs.compound.Statement.{statement}
 use Rattle.passes.proofs.compound.Tie as tie
 
@@ -23,7 +23,7 @@ length-picks graphs count picked h = length-map (take count picked) (λ i. getD 
 pick-at : (graphs : List ℕ) (count : ℕ) (picked : List ℕ) (k : ℕ) → count ≤ length picked → k < count
     → getD (picks graphs count picked) k 0 ≡ getD graphs (getD picked k 0) 0
 pick-at graphs count picked k h l =
-    at-map (λ i. getD graphs i 0) 0 (take count picked) k (omega (arith, length-take count picked))
+    at-map (λ i. getD graphs i 0) 0 0 (take count picked) k (omega (arith, length-take count picked))
     ∙ ap (λ (i : ℕ). getD graphs i 0) (getD-take count picked k 0 l)
 
 one-placed : (gs rows : List ℕ) (k : ℕ) → k < length gs

@@ -1,15 +1,8 @@
 -- `passes::task_of` meets its contract. Assumes nothing.
-use mathlib.Core.Path.{_≡_, ap, _∙_}
-use mathlib.Core.List.{List}
-use Prim.Native.Nat.{ℕ}
 use borrow.Author.Needs.{needs}
 use native.Mathlib.Omega.{arith}
-use lib.ListN.{replicate}
-use Rattle.grammar.specs.declared.Edge.{Edge}
-use Rattle.grammar.specs.Table.{edgesIn}
-use Rattle.graph.specs.Rows.{own}
 use Rattle.passes.specs.Follow.{taskOf}
-use Rattle.passes.proofs.Tables.{few-productions, own-edges}
+use Rattle.passes.proofs.Tables.{few-productions}
 use Rattle.passes.proofs.task_of.Statement.{statement}
 use Rattle.passes.proofs.task_of.Tie as tie
 

@@ -1,10 +1,9 @@
 -- The entry's numbers are in the slices. Assumes nothing.
-use mathlib.Core.Path.{_≡_}
 use native.Mathlib.Omega.{arith}
 use borrow.Author.Needs.{needs}
 use mir.Syntax.{w16}
 use mir.Val.{Fits}
-use lib.ListN.{length, getD}
+use lib.ListN.{getD}
 use Rattle.lines.proofs.Short.{entry-short}
 use Rattle.passes.specs.Follow.{entryAt}
 use Rattle.print.proofs.entry_line.Statement.{statement}

@@ -1,5 +1,4 @@
 use borrow.Author.Needs.{needs}
-use native.Mathlib.Omega.{arith}
 use Rattle.lines.proofs.Short.{first-short}
 use Rattle.print.proofs.first_line.Statement.{statement}
 use Rattle.print.proofs.first_line.Tie as tie

@@ -1,6 +1,5 @@
 -- The record's n. Assumes nothing.
-use mathlib.Core.Path.{_≡_, ap, _∙_}
-use Prim.Native.Nat.{ℕ}
+use mathlib.Core.Path.{ap, _∙_}
 use borrow.Author.Needs.{needs}
 use Rattle.grammar.specs.declared.Production.{Production}
 use Rattle.print.specs.Texts.{kidsIn}

@@ -1,13 +1,10 @@
 -- The first line, then the rest. Assumes nothing.
-use mathlib.Core.Path.{_≡_, refl, sym, _∙_}
-use Prim.Native.Nat.{ℕ, _+_, _*_, _≤_}
+use mathlib.Core.Path.{sym, _∙_}
 use native.Mathlib.Omega.{arith}
 use borrow.Author.Needs.{needs}
 use borrow.Author.Tests.{not-true, not-false}
-use lib.ListN.{length}
 use Rattle.lines.specs.Lines.{printed}
-use Rattle.passes.specs.Slices.{Slices, slices, roomOf}
-use Rattle.print.specs.Texts.{enough, Printed}
+use Rattle.passes.specs.Slices.{slices}
 use Rattle.print.proofs.Placing.{then, placed-length, roomy, not-printed, is-printed}
 use Rattle.print.proofs.report_text.Statement.{statement}
 use Rattle.print.proofs.report_text.Tie as tie

@@ -1,5 +1,4 @@
 -- `records::entry_of` meets its promise. Assumes nothing.
-use mathlib.Core.Path.{ap}
 use borrow.Author.Needs.{needs}
 use Rattle.passes.specs.Follow.{entryAt}
 use Rattle.records.proofs.entry_of.Statement.{statement}

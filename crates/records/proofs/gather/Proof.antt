@@ -1,20 +1,21 @@
 -- `records::gather` meets its promise. Assumes nothing.
-use mathlib.Core.Path.{_≡_, refl, sym, ap, _∙_}
-use mathlib.Core.List.{List, map}
+use mathlib.Core.Path.{_≡_, ap, _∙_}
+use mathlib.Core.List.{List}
 use Prim.Native.Nat.{ℕ, _*_, _≤_}
 use native.Mathlib.Omega.{arith}
-use lib.ListN.{length, drop}
+use lib.ListN.{length}
 use borrow.Author.Needs.{needs}
 use Rattle.numbers.specs.Lists.{written}
 use Rattle.rules.specs.declared.Entry.{Entry}
 use Rattle.rules.specs.declared.Report.{Report}
 use Rattle.rules.specs.Passes.{Outcome}
 use Rattle.rules.specs.Test.{test}
-use Rattle.passes.specs.Slices.{Slices, slices, roomOf, kidsOf, Tested}
+use Rattle.passes.specs.Slices.{Slices, roomOf, Tested}
 use Rattle.passes.specs.Follow.{entriesTo}
 use Rattle.records.specs.declared.Ran.{Ran}
 use Rattle.records.specs.Records.{zeros, ranOf}
-use Rattle.records.proofs.Outcome.{Counted, counted-test, Begins, entries-fit, entries-are}
+use Rattle.rules.proofs.Stored.{Counted, counted-test}
+use Rattle.passes.proofs.Told.{entries-fit, entries-told}
 use Rattle.records.proofs.gather.Statement.{statement}
 use Rattle.records.proofs.gather.Tie as tie
 
@@ -28,26 +29,14 @@ module _ (bs : List ℕ) (limit : ℕ) (σ : Slices) (r : Report) (τ : Slices) 
   n-is : n ≡ length (o .entries)
   n-is = wide ∙ ap (λ (x : Report). x .entries) (told .report) ∙ counted .count
 
-  begins : Begins (o .entries) τ
-  begins =
-      record {
-        rest =
-            slices (drop (length (map (λ e. e .symbol) (o .entries))) (σ .symbols)) (drop (length (map (λ e. e .graph) (o .entries))) (σ .graphs))
-            (drop (length (map (λ e. e .production) (o .entries))) (σ .productions)) (drop (length (kidsOf (o .entries))) (σ .kids));
-        symbols = told .symbols;
-        graphs = told .graphs;
-        productions = told .productions;
-        kids = told .kids;
-      }
-
   fits : (n ≤ 4096) × (n ≤ length (τ .symbols)) × (n ≤ length (τ .graphs)) × (n ≤ length (τ .productions)) × (7 * n ≤ length (τ .kids))
   fits =
-      let long = entries-fit (o .entries) τ (counted .sound .slots) begins in
+      let long = entries-fit o σ r τ (counted .sound .slots) told in
       (omega (arith, n-is, counted .sound .fits), omega (arith, n-is, long .0), omega (arith, n-is, long .1), omega (arith, n-is, long .2), omega (arith, n-is, long .3))
 
   gathered : (rows : List Entry) → rows ≡ written (entriesTo τ n) zeros → _≡_ {A = Ran} (record { report = r; stored = n; rows = rows }) (ranOf o)
   gathered rows e =
-      let es : entriesTo τ n ≡ o .entries = ap (entriesTo τ) n-is ∙ entries-are (o .entries) τ (counted .sound .slots) begins in
+      let es : entriesTo τ n ≡ o .entries = ap (entriesTo τ) n-is ∙ entries-told o σ r τ (counted .sound .slots) told in
       λ j. record {
         report = told .report j;
         stored = n-is j;

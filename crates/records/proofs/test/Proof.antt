@@ -1,7 +1,7 @@
 -- `records::test` meets its promise: a walk of its MIR. It runs the test, whose entries come back by value, and hands the row on to `store`
 -- at its own lifetime, since it does not need it afterwards. All that the proof knows of the two is their promises. Assumes nothing.
 use mathlib.Core.Path.{_≡_, refl, sym, ap, subst}
-use Prim.Native.Nat.{ℕ, _<_, _≤_, _^_, min}
+use Prim.Native.Nat.{ℕ, _<_, _≤_, _^_}
 use native.Mathlib.Omega.{arith}
 use mathlib.Core.List.{List, [], _∷_}
 use lib.ListN.{length, take}
@@ -44,20 +44,19 @@ use denote.Triple.Walked.{says, Stays, gave-slice, stay-none-slice, stay-none, w
 use denote.Exit.{yes}
 use Rattle.numbers.specs.Lists.{written}
 use Rattle.rules.specs.declared.Entry.{Entry}
-use Rattle.rules.specs.declared.Report.{Report}
 use Rattle.rules.specs.Passes.{Outcome}
 use Rattle.rules.specs.Test as rules
 use Rattle.rules.proofs.Report as report
 use Rattle.rules.proofs.Report.Laws as of-report
 use Rattle.records.specs.declared.Ran.{Ran}
-use Rattle.records.specs.Records.{zeros, ranOf, roomOf}
+use Rattle.records.specs.Records.{ranOf, roomOf}
 use Rattle.records.proofs.Ran as ran
 use Rattle.records.proofs.Ran.Laws as of-ran
 use Rattle.records.proofs.InMemory.{Row}
 use Rattle.records.proofs.Arrays.{Rows, rows-makes, field-val, as-rows}
 use Rattle.records.proofs.Walking.{locals, lets-go, gives}
 use Rattle.records.proofs.Writing.{length-taken}
-use Rattle.records.proofs.Outcome.{Counted, counted-test}
+use Rattle.rules.proofs.Stored.{counted-test}
 use Rattle.records.proofs.run as run
 use Rattle.records.proofs.run.Symbol as run-def
 use Rattle.records.proofs.run.Symbol.{name as #records·run}
