@@ -1,7 +1,7 @@
 -- A bit of the closed rows is a path of one or more edges, and no less; so the circle test finds a circle exactly if there is one.
 -- For any number of nodes. Assumes nothing.
 use mathlib.Core.Path.{_≡_, refl, sym, ap, ap₂, _∙_}
-use mathlib.Core.Bool.{Bool, true}
+use mathlib.Core.Bool.{Bool, true, false≢true}
 use mathlib.Core.List.{List, map}
 use mathlib.Core.Logic.{_↔_}
 use Prim.Native.Nat.{ℕ, zero, suc, _<_, min, max}
@@ -78,7 +78,7 @@ circle-found (suc n) rows i l h = go (ℕ-discrete i n) (λ k. circle-found n ro
 
 circle-there : (n : ℕ) (rows : List ℕ) → circleTo n rows ≡ true → (i : ℕ) × Leads (bits rows) i i
 unfolding circleTo
-circle-there zero rows h = absurd (let z : _≡_ {A = ℕ} 0 1 = cc in omega arith)
+circle-there zero rows h = absurd (false≢true h)
 circle-there (suc n) rows h = go (bits rows n n) refl (λ t. circle-there n rows t)
   where
     go : (b : ℕ) → bits rows n n ≡ b → (circleTo n rows ≡ true → (i : ℕ) × Leads (bits rows) i i) → (i : ℕ) × Leads (bits rows) i i

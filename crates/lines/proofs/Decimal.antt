@@ -1,23 +1,14 @@
 -- How many digits a number has. Assumes nothing.
 use mathlib.Core.Path.{_≡_, refl, ap, _∙_}
-use mathlib.Core.Bool.{Bool, true, false}
-use mathlib.Core.Logic.{_⊎_, inl, inr}
 use Prim.Native.Nat.{ℕ, zero, suc, _/_, _^_, _≤_, _<_}
 use native.Mathlib.Nat.{one-le-pow}
+use native.Mathlib.Decide.{decLt}
 use native.Mathlib.Numerals.{sub-one}
 use native.Mathlib.Omega.{arith}
-use borrow.Author.Tests.{ltb-true, ltb-false, lt-ltb, le-ltb}
-use lib.Dec.{ltb}
+use borrow.Author.Tests.{lt-ltb, le-ltb}
 use lib.ListN.{length, length-append}
 use Rattle.io.specs.Digits.{digits, Fewest}
 use Rattle.lines.specs.Lines.{placesBy, places, decimal}
-
-by-ten : (n : ℕ) → (n < 10) ⊎ (10 ≤ n)
-by-ten n = go (ltb n 10) refl
-  where
-    go : (b : Bool) → ltb n 10 ≡ b → (n < 10) ⊎ (10 ≤ n)
-    go true e = inl (ltb-true _ _ e)
-    go false e = inr (ltb-false _ _ e)
 
 one-place : (fuel n : ℕ) → n < 10 → placesBy fuel n ≡ 1
 unfolding placesBy
@@ -53,17 +44,17 @@ fewest n (suc k) f = fewest-by n n k (omega arith) f
 abbrev AtMost : ℕ → Type 0
 AtMost fuel = (n k : ℕ) → n < 10 ^ suc k → placesBy fuel n ≤ suc k
 
-at-most-more : (fuel : ℕ) → AtMost fuel → (n k : ℕ) → (n < 10) ⊎ (10 ≤ n) → n < 10 ^ suc k → placesBy (suc fuel) n ≤ suc k
-at-most-more fuel ih n k (inl few) h = rw (one-place (suc fuel) n few) (omega arith)
-at-most-more fuel ih n zero (inr many) h = absurd (omega arith)
-at-most-more fuel ih n (suc k) (inr many) h =
+at-most-more : (fuel : ℕ) → AtMost fuel → (n k : ℕ) → Dec (n < 10) → n < 10 ^ suc k → placesBy (suc fuel) n ≤ suc k
+at-most-more fuel ih n k (yes few) h = rw (one-place (suc fuel) n few) (omega arith)
+at-most-more fuel ih n zero (no many) h = absurd (omega arith)
+at-most-more fuel ih n (suc k) (no many) h =
     let tenth = ih (n / 10) k (omega arith) in
-    rw (more-places fuel n many) (omega arith)
+    rw (more-places fuel n (omega arith)) (omega arith)
 
 at-most-by : (fuel : ℕ) → AtMost fuel
 unfolding placesBy
 at-most-by zero n k h = omega arith
-at-most-by (suc fuel) n k h = at-most-more fuel (at-most-by fuel) n k (by-ten n) h
+at-most-by (suc fuel) n k h = at-most-more fuel (at-most-by fuel) n k (decLt n 10) h
 
 pub at-most : (n k : ℕ) → n < 10 ^ suc k → places n ≤ suc k
 unfolding places

@@ -1,11 +1,12 @@
--- A part of a list, from a to e, clipped to what is there. Assumes nothing.
+-- A part of a list, from a to e, clipped to what is there; and a part that is copied element by element. Assumes nothing.
 use mathlib.Core.Path.{_≡_, refl, sym, _∙_}
 use mathlib.Core.List.{List}
-use Prim.Native.Nat.{ℕ, _-_, _≤_, min}
+use Prim.Native.Nat.{ℕ, _+_, _-_, _≤_, _<_, min}
 use native.Mathlib.Decide.{decLe}
+use native.Mathlib.Numerals.{add-one}
 use native.Mathlib.Omega.{arith}
-use lib.ListN.{length, take, drop, length-drop, drop-of-length-le}
-use lib.Seq.{take-all}
+use lib.ListN.{length, getD, set, take, drop, length-drop, drop-of-length-le}
+use lib.Seq.{take-all, take-suc, take-suc-set, getD-drop}
 
 -- a number that is clipped to the length of a list
 module _ {A : Type 0} (m n : ℕ) (l : List A) (e : n ≡ min m (length l)) where
@@ -33,3 +34,10 @@ module _ {A : Type 0} (l : List A) (a e : ℕ) where
   clipped h =
       let n : min e (length l) - min a (length l) ≡ min (e - a) (length (drop a l)) = omega (arith, length-drop a l) in
       rw (drop-clipped a (min a (length l)) l refl) (take-clipped (e - a) _ (drop a l) n)
+
+-- a part that is copied, one element more
+pub copied-more : {A : Type 0} (d : A) (l from : List A) (at k : ℕ) → k < length l → at + k < length from → take k l ≡ take k (drop at from)
+    → take (k + 1) (set l k (getD from (at + k) d)) ≡ take (k + 1) (drop at from)
+copied-more d l from at k h g e =
+    let there : k < length (drop at from) = rw length-drop (omega arith) in
+    rw (add-one, take-suc-set l k _ h, take-suc (drop at from) k d there, getD-drop, e)

@@ -1,6 +1,6 @@
 -- What it is to follow a rule: nothing, one thing after another, and what a stopped run does. Assumes nothing.
 use mathlib.Core.Path.{_≡_, refl, sym, ap, _∙_}
-use mathlib.Core.Bool.{Bool, true, false}
+use mathlib.Core.Bool.{Bool, true, false, true≢false, false≢true}
 use mathlib.Core.List.{List, [], _∷_, _++_}
 use Prim.Native.Nat.{ℕ, _+_, _-_, _*_, _≤_}
 use native.Mathlib.Nat.{le-refl, le-trans}
@@ -96,16 +96,12 @@ then-here true a root s f g h = h
 then-here false a root s f g h = refl
 
 pub stopped-by : (b : Bool) (a : Answer) (root : List ℕ) (s : State) → b ≡ false → ranBy b a root s ≡ stopped a root s
-stopped-by true a root s h =
-    let z : _≡_ {A = ℕ} 0 1 = cc in
-    absurd (omega arith)
+stopped-by true a root s h = absurd (true≢false h)
 stopped-by false a root s h = refl
 
 pub going-by : (b : Bool) (a : Answer) (root : List ℕ) (s : State) → b ≡ true → ranBy b a root s ≡ going s
 going-by true a root s h = refl
-going-by false a root s h =
-    let z : _≡_ {A = ℕ} 0 1 = cc in
-    absurd (omega arith)
+going-by false a root s h = absurd (false≢true h)
 
 -- ---- following
 

@@ -2,13 +2,14 @@
 use mathlib.Core.Path.{_≡_, refl, sym, ap, ap₂, _∙_}
 use mathlib.Core.Bool.{Bool, true, false, false≢true}
 use mathlib.Core.List.{List}
-use Prim.Native.Nat.{ℕ, zero, suc, _+_, _-_, _*_, _≤_, _<_}
+use Prim.Native.Nat.{ℕ, suc, _+_, _-_, _*_, _≤_, _<_}
 use native.Mathlib.Numerals.{add-one}
 use native.Mathlib.Omega.{arith}
 use lib.Dec.{leb, eqb}
 use lib.ListN.{length, getD, take, length-take}
 use lib.Seq.{getD-take}
-use borrow.Author.Tests.{le-leb, lt-leb, ne-eqb, eqb-true, eqb-false}
+use borrow.Author.Tests.{eqb-false}
+use Rattle.numbers.proofs.Decides.{same-test, le-decides, eq-decides}
 use Rattle.rules.specs.declared.Answer.the-variants.{Circular, OutOfSteps, OutOfRoom}
 use Rattle.rules.specs.declared.Entry.{Entry}
 use Rattle.passes.specs.declared.Run.{Run}
@@ -93,16 +94,11 @@ six-acted false false false false g p root s t u = refl
 
 -- no closure is left exactly if as many as the limit have been made
 none-left : (limit left : ℕ) → left ≤ limit → leb limit (limit - left) ≡ eqb left 0
-none-left limit zero l = le-leb limit (limit - 0) (omega arith)
-none-left limit (suc n) l = lt-leb limit (limit - suc n) (omega arith) ∙ sym (ne-eqb (suc n) 0 (omega arith))
+none-left limit left l = same-test (le-decides limit (limit - left)) (eq-decides left 0) (λ h. omega arith) (λ h. omega arith)
 
 -- the room is full exactly if as many are stored
 full-by : (room n : ℕ) → n ≤ room → leb room n ≡ eqb n room
-full-by room n l = go (eqb n room) refl
-  where
-    go : (b : Bool) → eqb n room ≡ b → leb room n ≡ b
-    go true e = le-leb room n (omega (arith, eqb-true n room e))
-    go false e = lt-leb room n (omega (arith, eqb-false n room e))
+full-by room n l = same-test (le-decides room n) (eq-decides n room) (λ h. omega arith) (λ h. omega arith)
 
 left-by : (k : Task) (rows : List ℕ) (p : ℕ) → systemBy (turnBy k rows) .left p ≡ k .symbol
 unfolding systemBy

@@ -1,5 +1,5 @@
 -- The test by the check's answer. Assumes nothing.
-use mathlib.Core.Path.{_≡_, refl, subst}
+use mathlib.Core.Path.{_≡_, refl, ap, _∙_, subst}
 use mathlib.Core.Bool.{Bool, true, false, cond}
 use mathlib.Core.List.{List, [], _∷_}
 use Prim.Native.Nat.{ℕ, zero, suc, _≤_}
@@ -87,11 +87,14 @@ module _ (bs : List ℕ) where
   unfolding test
   test-taken limit room count σ h c r = rw (taken h, productions-many bs, c, r)
 
-  pub test-refused : (limit room k : ℕ) → checked (refusal 8 bs) ≡ Stopped k → test 8 bs limit room ≡ outcome (Refused k) noRoot empty 0
+  pub test-refusal : (limit room : ℕ) → (refusal 8 bs ≡ 0 → ⊥) → test 8 bs limit room ≡ outcome (Refused (refusal 8 bs)) noRoot empty 0
   unfolding test
+  test-refusal limit room h = rw (ne-eqb (refusal 8 bs) 0 h, refused-number (refusal 8 bs) (refusal-small 8 bs))
+
+  pub test-refused : (limit room k : ℕ) → checked (refusal 8 bs) ≡ Stopped k → test 8 bs limit room ≡ outcome (Refused k) noRoot empty 0
   test-refused limit room k h =
       let w = checked-stopped (refusal 8 bs) k h in
-      rw (ne-eqb (refusal 8 bs) 0 (w .1), w .0, refused-number k (omega (arith, w .0, refusal-small 8 bs)))
+      test-refusal limit room (w .1) ∙ ap (λ (n : ℕ). outcome (Refused n) noRoot empty 0) (w .0)
 
 -- nothing is stored
 pub tells-refused : (o : Outcome) (σ : Slices) (k : ℕ) → o ≡ outcome (Refused k) noRoot empty 0

@@ -1,18 +1,20 @@
 -- No table has more than 58,904 bytes: of a longer input the first 58,905 bytes are refused as the whole is. Assumes nothing.
-use mathlib.Core.Path.{_≡_, refl}
+use mathlib.Core.Path.{_≡_, refl, sym, ap, _∙_}
 use mathlib.Core.Bool.{Bool, true, false, cond}
 use mathlib.Core.List.{List}
 use Prim.Native.Nat.{ℕ, _≤_, _<_}
+use native.Mathlib.Decide.{decLe}
 use native.Mathlib.Omega.{arith}
-use borrow.Author.Tests.{le-leb, leb-true, leb-false}
-use lib.Dec.{leb, eqb}
+use borrow.Author.Tests.{le-leb}
 use lib.ListN.{length, take}
 use lib.Seq.{length-take-le, take-all, getD-take}
+use Rattle.numbers.proofs.Decides.{not-so}
 use Rattle.grammar.specs.Refusal.{countsOk, offsetsOk, refusal}
 use Rattle.grammar.proofs.Decided.{counts-decide, offsets-decide}
 use Rattle.rules.specs.declared.Answer.the-variants.{Refused}
-use Rattle.rules.specs.Passes.{Outcome, outcome, numbered, noRoot, empty}
+use Rattle.rules.specs.Passes.{outcome, noRoot, empty}
 use Rattle.rules.specs.Test.{test}
+use Rattle.passes.proofs.Testing.{test-refusal}
 use Rattle.lines.specs.Lines.{rest, printed}
 use Rattle.print.specs.Texts.{kidsIn}
 
@@ -25,23 +27,16 @@ by-counts : (counts offsets : Bool) (k : ℕ) → (counts ≡ true → offsets �
 by-counts true offsets k h = rw (h refl)
 by-counts false offsets k h = refl
 
-two-or-three : (b : Bool) (o : Outcome)
-    → cond (eqb (cond b 3 2) 0) o (outcome (numbered (cond b 3 2)) noRoot empty 0) ≡ outcome (Refused (cond b 3 2)) noRoot empty 0
-unfolding numbered
-two-or-three true o = refl
-two-or-three false o = refl
+two-or-three : (b : Bool) → _≡_ {A = ℕ} (cond b 3 2) 0 → ⊥
+two-or-three true h = omega arith
+two-or-three false h = omega arith
 
 -- the counts decide
 module _ (bs : List ℕ) (long : 58904 < length bs) where
   no-offsets : countsOk bs ≡ true → offsetsOk bs ≡ false
-  no-offsets c = go (offsetsOk bs) refl
-    where
-      go : (b : Bool) → offsetsOk bs ≡ b → b ≡ false
-      go false e = refl
-      go true e =
-          let counts = counts-decide bs .so c in
-          let offsets = offsets-decide bs .so e in
-          absurd (omega arith)
+  no-offsets c =
+      let counts = counts-decide bs .so c in
+      not-so (offsets-decide bs) (λ offsets. omega arith)
 
   refused-by : refusal 8 bs ≡ cond (countsOk bs) 3 2
   unfolding refusal
@@ -49,19 +44,19 @@ module _ (bs : List ℕ) (long : 58904 < length bs) where
 
   -- 2 or 3
   refused : (limit room : ℕ) → test 8 bs limit room ≡ outcome (Refused (cond (countsOk bs) 3 2)) noRoot empty 0
-  unfolding test
-  refused limit room = rw refused-by (two-or-three (countsOk bs) _)
+  refused limit room =
+      test-refusal bs limit room (λ e. two-or-three (countsOk bs) (sym refused-by ∙ e))
+      ∙ ap (λ (n : ℕ). outcome (Refused n) noRoot empty 0) refused-by
 
 -- What is printed of the first 58,905 bytes is what is printed of the whole input.
 pub whole-input : (bs : List ℕ) (limit room : ℕ)
     → printed (kidsIn (take 58905 bs)) (test 8 (take 58905 bs) limit room) ≡ printed (kidsIn bs) (test 8 bs limit room)
 unfolding printed rest
-whole-input bs limit room = go (leb (length bs) 58905) refl
+whole-input bs limit room = go (decLe (length bs) 58905)
   where
-    go : (b : Bool) → leb (length bs) 58905 ≡ b
+    go : Dec (length bs ≤ 58905)
         → printed (kidsIn (take 58905 bs)) (test 8 (take 58905 bs) limit room) ≡ printed (kidsIn bs) (test 8 bs limit room)
-    go true e = rw (take-all 58905 bs (leb-true _ _ e))
-    go false e =
-        let more = leb-false (length bs) 58905 e in
+    go (yes l) = rw (take-all 58905 bs l)
+    go (no f) =
         let first : 58904 < length (take 58905 bs) = rw (length-take-le 58905 bs (omega arith)) (omega arith) in
         rw (refused (take 58905 bs) first limit room, refused bs (omega arith) limit room, same-counts 58905 bs (omega arith))

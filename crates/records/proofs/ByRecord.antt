@@ -6,15 +6,15 @@ use Prim.Native.Nat.{ℕ, zero, suc, _+_, _-_, _≤_, _<_, zero-le}
 use native.Mathlib.Omega.{arith}
 use lib.ListN.{length, drop, List·getD-append}
 use lib.Seq.{getD-append-add, getD-drop}
-use borrow.Author.Tests.{ne-eqb}
 use Rattle.numbers.specs.Lists.{written}
 use Rattle.grammar.specs.Refusal.{refusal}
 use Rattle.rules.specs.declared.Entry.{Entry}
 use Rattle.rules.specs.declared.Report.{Report}
-use Rattle.rules.specs.Passes.{noEntry, entry}
+use Rattle.rules.specs.Passes.{Outcome, noEntry, entry}
 use Rattle.rules.specs.Test as rules
 use Rattle.records.specs.Records.{of, firstOf, roomOf, Tested}
 use Rattle.rules.proofs.Stored.{counted-test}
+use Rattle.passes.proofs.Testing.{test-refusal}
 use Rattle.records.proofs.Writing.{length-written}
 
 -- ---- the row after a test
@@ -49,8 +49,7 @@ module _ (bs : List ℕ) (limit : ℕ) (before : List Entry) (r : Report) (after
 
   -- on a refusal all is as before
   pub refused-before : (refusal 8 bs ≡ 0 → ⊥) → after ≡ before
-  unfolding rules.test
-  refused-before bad = tested .entries ∙ rw (ne-eqb (refusal 8 bs) 0 bad)
+  refused-before bad = tested .entries ∙ ap (λ (o : Outcome). written (o .entries) before) (test-refusal bs limit (roomOf before) bad)
 
 -- ---- the entry that a lookup finds
 

@@ -1,19 +1,16 @@
 -- A list that is written over the front of another, place by place. Assumes nothing.
 use mathlib.Core.Path.{_≡_, refl, sym, ap, _∙_}
-use mathlib.Core.List.{List, [], _∷_, _++_, append-nil}
+use mathlib.Core.List.{List, [], _∷_, _++_}
 use Prim.Native.Nat.{ℕ, _+_, _≤_, _<_}
 use native.Mathlib.Omega.{arith}
 use native.Mathlib.Numerals.{add-one}
-use lib.ListN.{length, getD, set, take, length-take, drop-of-length-le}
+use lib.ListN.{length, getD, set, take, length-take}
 use lib.Seq.{length-front, length-take-le, take-suc}
 use Rattle.numbers.specs.Lists.{written}
 
 module _ {A : Type 0} where
   pub length-written : (xs ys : List A) → length xs ≤ length ys → length (written xs ys) ≡ length ys
   length-written xs ys l = length-front ys xs (length xs) (sym (length-take-le (length xs) ys l))
-
-  pub written-whole : (xs ys : List A) → length xs ≡ length ys → written xs ys ≡ xs
-  written-whole xs ys e = ap (λ (zs : List A). xs ++ zs) (drop-of-length-le ys {i = length xs} (omega arith)) ∙ append-nil xs
 
   -- one more
   pub written-snoc : (xs ys : List A) (e : A) → length xs < length ys → set (written xs ys) (length xs) e ≡ written (xs ++ (e ∷ [])) ys

@@ -3,10 +3,11 @@ use mathlib.Core.Path.{_≡_, refl, ap}
 use mathlib.Core.Bool.{Bool, true, false, cond}
 use mathlib.Core.List.{List, [], _∷_, _++_, map}
 use Prim.Native.Nat.{ℕ, zero, suc, _≤_, _<_, zero-le}
+use native.Mathlib.Decide.{decLt}
 use native.Mathlib.Omega.{arith}
-use lib.Dec.{eqb, ltb}
+use lib.Dec.{eqb}
 use lib.ListN.{length, length-append, length-map, length-replicate, length-take}
-use borrow.Author.Tests.{leb-false, ltb-true, ltb-false}
+use borrow.Author.Tests.{leb-false}
 use Rattle.grammar.specs.Grammar.{production, rights}
 use Rattle.grammar.specs.Table.{P, grammarOf}
 use Rattle.grammar.specs.Refusal.{refusal}
@@ -137,11 +138,11 @@ module _ (W : System) (limit room : ℕ) (few : (p : ℕ) → length (W .rights 
 -- ---- the test of a table
 
 pub slots-seven : (bs : List ℕ) (p : ℕ) → length (production (grammarOf bs) p .slots) ≡ 7
-slots-seven bs p = go (ltb p (P bs)) refl
+slots-seven bs p = go (decLt p (P bs))
   where
-    go : (b : Bool) → ltb p (P bs) ≡ b → length (production (grammarOf bs) p .slots) ≡ 7
-    go true e = rw (production-there bs p (ltb-true _ _ e), slots-are)
-    go false e = rw (production-none bs p (ltb-false _ _ e), length-replicate)
+    go : Dec (p < P bs) → length (production (grammarOf bs) p .slots) ≡ 7
+    go (yes l) = rw (production-there bs p l, slots-are)
+    go (no f) = rw (production-none bs p (omega arith), length-replicate)
 
 module _ (w : ℕ) (bs : List ℕ) where
   few-rights : (p : ℕ) → length (systemOf w (grammarOf bs) .rights p) ≤ 7

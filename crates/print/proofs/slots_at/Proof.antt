@@ -1,20 +1,13 @@
 -- Each turn copies one slot more. Assumes nothing.
 use mathlib.Core.Path.{_≡_, refl, sym, _∙_}
-use mathlib.Core.List.{List}
-use Prim.Native.Nat.{ℕ, _+_, _-_, _≤_, _<_}
-use native.Mathlib.Numerals.{add-one}
+use Prim.Native.Nat.{_-_, _≤_}
 use native.Mathlib.Omega.{arith}
 use borrow.Author.Needs.{needs}
-use lib.ListN.{length, take, drop, getD, set, length-drop, length-set}
-use lib.Seq.{take-all, take-suc, take-suc-set, getD-drop}
+use lib.ListN.{length, take, drop, length-set}
+use lib.Seq.{take-all}
+use Rattle.numbers.proofs.Parts.{copied-more}
 use Rattle.print.proofs.slots_at.Statement.{statement}
 use Rattle.print.proofs.slots_at.Tie as tie
-
-one-more : (l kids : List ℕ) (at k : ℕ) → k < length l → at + k < length kids → take k l ≡ take k (drop at kids)
-    → take (k + 1) (set l k (getD kids (at + k) 0)) ≡ take (k + 1) (drop at kids)
-one-more l kids at k h g e =
-    let there : k < length (drop at kids) = rw length-drop (omega arith) in
-    rw (add-one, take-suc-set l k _ h, take-suc (drop at kids) k 0 there, getD-drop, e)
 
 abbrev Inv-loop : tie.InvT-loop
 Inv-loop kids at slots₀ k₀ slots k = (k ≤ 7) × (length slots ≡ 7) × (take k slots ≡ take k (drop at kids))
@@ -50,7 +43,7 @@ loop-again : tie.Need-loop-again Inv-loop μ-loop
 loop-again c =
     let args = c .before .before .before .args in
     let now = c .before .before .loop in
-    (omega arith, simp length-set (now .inv .1), one-more (now .slots) (args .kids .now) (args .at) (now .k) (omega arith) (omega arith) (now .inv .2))
+    (omega arith, simp length-set (now .inv .1), copied-more 0 (now .slots) (args .kids .now) (args .at) (now .k) (omega arith) (omega arith) (now .inv .2))
 
 returns : tie.Need-returns Inv-loop μ-loop
 returns c =

@@ -1,39 +1,25 @@
 -- `records::kids_of` meets its promise. Assumes nothing.
-use mathlib.Core.Path.{_≡_, sym, ap, ap₂, _∙_}
-use mathlib.Core.List.{List}
-use Prim.Native.Nat.{ℕ, _*_, _+_, _-_, _≤_, _<_}
+use mathlib.Core.Path.{_≡_, refl, sym, _∙_}
+use Prim.Native.Nat.{_*_, _-_, _≤_}
 use native.Mathlib.Omega.{arith}
-use lib.ListN.{length, getD, set, take, drop, replicate, length-set, length-drop}
-use lib.Seq.{getD-drop, length-take-le}
+use lib.ListN.{length, take, drop, length-set}
+use lib.Seq.{take-all}
 use denote.Ref.{now}
 use borrow.Author.Needs.{needs}
-use Rattle.numbers.specs.Lists.{written}
-use Rattle.records.proofs.Writing.{written-more, written-whole}
+use Rattle.numbers.proofs.Parts.{copied-more}
 use Rattle.records.proofs.kids_of.Statement.{statement}
 use Rattle.records.proofs.kids_of.Tie as tie
 use Rattle.records.proofs.kids_of.Reads as reads
 use Rattle.records.proofs.kids_of.Lts as lts
 
-module _ (ks : List ℕ) (i : ℕ) (fits : 7 * i + 7 ≤ length ks) where
-  more : (k : ℕ) (slots : List ℕ) → slots ≡ written (take k (drop (7 * i) ks)) (replicate 7 0) → k < 7
-      → set slots k (getD ks (7 * i + k) 0) ≡ written (take (k + 1) (drop (7 * i) ks)) (replicate 7 0)
-  more k slots e l =
-      ap₂ (λ (zs : List ℕ) (v : ℕ). set zs k v) e (sym (getD-drop (7 * i) ks k 0))
-      ∙ written-more (drop (7 * i) ks) (replicate 7 0) k 0 (omega (arith, length-drop (7 * i) ks)) l
-
-  all : (k : ℕ) (slots : List ℕ) → slots ≡ written (take k (drop (7 * i) ks)) (replicate 7 0) → k ≡ 7 → slots ≡ take 7 (drop (7 * i) ks)
-  all k slots e l =
-      e ∙ ap (λ (j : ℕ). written (take j (drop (7 * i) ks)) (replicate 7 0)) l
-      ∙ written-whole (take 7 (drop (7 * i) ks)) (replicate 7 0) (length-take-le 7 (drop (7 * i) ks) (omega (arith, length-drop (7 * i) ks)))
-
 abbrev Inv-loop : tie.InvT-loop
-Inv-loop kids i slots₀ k₀ slots k = (k ≤ 7) × (length slots ≡ 7) × (slots ≡ written (take k (drop (7 * i) kids)) (replicate 7 0))
+Inv-loop kids i slots₀ k₀ slots k = (k ≤ 7) × (length slots ≡ 7) × (take k slots ≡ take k (drop (7 * i) kids))
 
 abbrev μ-loop : tie.MeasureT-loop
 μ-loop kids i slots₀ k₀ slots k = 7 - k
 
 loop-holds : tie.Need-loop-holds Inv-loop μ-loop
-loop-holds c = search needs
+loop-holds c = (search needs, refl, refl)
 
 mul-slots : tie.Need-mul-slots Inv-loop μ-loop
 mul-slots c = search needs
@@ -63,10 +49,13 @@ loop-again : tie.Need-loop-again Inv-loop μ-loop
 loop-again c =
     let here = c .before .before .loop in
     let start = c .before .before .before in
-    (search needs, simp length-set (here .inv .1), more (now (start .args .kids)) (start .args .i) (start .pre) (here .k) (here .slots) (here .inv .2) (omega arith))
+    (search needs, simp length-set (here .inv .1), copied-more 0 (here .slots) (now (start .args .kids)) (7 * start .args .i) (here .k) (omega arith) (omega (arith, start .pre)) (here .inv .2))
 
 returns : tie.Need-returns Inv-loop μ-loop
-returns c = all (now (c .before .before .args .kids)) (c .before .before .args .i) (c .before .before .pre) (c .before .loop .k) (c .before .loop .slots) (c .before .loop .inv .2) (omega arith)
+returns c =
+    let here = c .before .loop in
+    let seven : here .k ≡ 7 = omega arith in
+    sym (take-all 7 (here .slots) (omega arith)) ∙ (rw seven at (here .inv .2))
 
 pub kids-of-spec : {M : Type 1} → statement M
 kids-of-spec =
