@@ -1,32 +1,28 @@
 -- A part of a list, from a to e, clipped to what is there; and a part that is copied element by element. Assumes nothing.
-use mathlib.Core.Path.{_≡_, refl, sym, _∙_}
+use mathlib.Core.Path.{_≡_, refl, sym, ap, _∙_}
 use mathlib.Core.List.{List}
 use Prim.Native.Nat.{ℕ, _+_, _-_, _≤_, _<_, min}
 use native.Mathlib.Decide.{decLe}
 use native.Mathlib.Numerals.{add-one}
 use native.Mathlib.Omega.{arith}
 use lib.ListN.{length, getD, set, take, drop, length-drop, drop-of-length-le}
-use lib.Seq.{take-all, take-suc, take-suc-set, getD-drop}
+use lib.Seq.{take-all, take-length, drop-length, take-suc, take-suc-set, getD-drop}
 
--- a number that is clipped to the length of a list
+-- a number that is clipped to z, where from z on nothing changes
+clip : {A : Type 0} (f : ℕ → A) (m n z : ℕ) → n ≡ min m z → ((k : ℕ) → z ≤ k → f k ≡ f z) → f n ≡ f m
+clip f m n z e past = go (decLe m z)
+  where
+    go : Dec (m ≤ z) → f n ≡ f m
+    go (yes p) = ap f (omega arith)
+    go (no p) = ap f (omega arith) ∙ sym (past m (omega arith))
+
+-- to the length of a list
 module _ {A : Type 0} (m n : ℕ) (l : List A) (e : n ≡ min m (length l)) where
   pub take-clipped : take n l ≡ take m l
-  take-clipped = go (decLe m (length l))
-    where
-      go : Dec (m ≤ length l) → take n l ≡ take m l
-      go (yes p) =
-          let q : n ≡ m = omega arith in
-          rw q
-      go (no p) = take-all n l (omega arith) ∙ sym (take-all m l (omega arith))
+  take-clipped = clip (λ k. take k l) m n (length l) e (λ k p. take-all k l p ∙ sym (take-length l))
 
   pub drop-clipped : drop n l ≡ drop m l
-  drop-clipped = go (decLe m (length l))
-    where
-      go : Dec (m ≤ length l) → drop n l ≡ drop m l
-      go (yes p) =
-          let q : n ≡ m = omega arith in
-          rw q
-      go (no p) = drop-of-length-le l {i = n} (omega arith) ∙ sym (drop-of-length-le l {i = m} (omega arith))
+  drop-clipped = clip (λ k. drop k l) m n (length l) e (λ k p. drop-of-length-le l {i = k} p ∙ sym (drop-length l))
 
 -- both ends clipped
 module _ {A : Type 0} (l : List A) (a e : ℕ) where

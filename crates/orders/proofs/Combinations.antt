@@ -18,27 +18,24 @@ pub entry-stays : (es more : List Entry) (i : ℕ) → i < length es → entry (
 entry-stays es more i h = List·getD-append es more noEntry i h
 
 -- ---- entries are added
+-- under another bound, over entries that have the same symbols
+fits-over : (es fs : List Entry) (P Q : ℕ → Type 0) → ((i : ℕ) → P i → Q i × (entry fs i .symbol ≡ entry es i .symbol)) → (c bs : List ℕ)
+    → Fits es P c bs → Fits fs Q c bs
+fits-over es fs P Q h [] [] f = tt
+fits-over es fs P Q h [] (b ∷ bs) f = f
+fits-over es fs P Q h (k ∷ c) [] f = f
+fits-over es fs P Q h (k ∷ c) (b ∷ bs) f = let x = h k (f .0) in (x .0, x .1 ∙ f .1, fits-over es fs P Q h c bs (f .2))
+
 pub fits-map : (es : List Entry) (P Q : ℕ → Type 0) → ((i : ℕ) → P i → Q i) → (c bs : List ℕ) → Fits es P c bs → Fits es Q c bs
-fits-map es P Q h [] [] f = tt
-fits-map es P Q h [] (b ∷ bs) f = f
-fits-map es P Q h (k ∷ c) [] f = f
-fits-map es P Q h (k ∷ c) (b ∷ bs) f = (h k (f .0), f .1, fits-map es P Q h c bs (f .2))
+fits-map es P Q h = fits-over es es P Q (λ i p. (h i p, refl))
 
 pub fits-more : (es more : List Entry) (P : ℕ → Type 0) → ((i : ℕ) → P i → i < length es) → (c bs : List ℕ)
     → Fits es P c bs → Fits (es ++ more) P c bs
-fits-more es more P h [] [] f = tt
-fits-more es more P h [] (b ∷ bs) f = f
-fits-more es more P h (k ∷ c) [] f = f
-fits-more es more P h (k ∷ c) (b ∷ bs) f =
-    (f .0, ap (λ (e : Entry). e .symbol) (entry-stays es more k (h k (f .0))) ∙ f .1, fits-more es more P h c bs (f .2))
+fits-more es more P h = fits-over es (es ++ more) P P (λ i p. (p, ap (λ (e : Entry). e .symbol) (entry-stays es more i (h i p))))
 
 pub fits-less : (es more : List Entry) (P : ℕ → Type 0) → ((i : ℕ) → P i → i < length es) → (c bs : List ℕ)
     → Fits (es ++ more) P c bs → Fits es P c bs
-fits-less es more P h [] [] f = tt
-fits-less es more P h [] (b ∷ bs) f = f
-fits-less es more P h (k ∷ c) [] f = f
-fits-less es more P h (k ∷ c) (b ∷ bs) f =
-    (f .0, ap (λ (e : Entry). e .symbol) (sym (entry-stays es more k (h k (f .0)))) ∙ f .1, fits-less es more P h c bs (f .2))
+fits-less es more P h = fits-over (es ++ more) es P P (λ i p. (p, ap (λ (e : Entry). e .symbol) (sym (entry-stays es more i (h i p)))))
 
 pub graphs-stay : (es more : List Entry) (P : ℕ → Type 0) → ((i : ℕ) → P i → i < length es) → (c bs : List ℕ)
     → Fits es P c bs → graphs (es ++ more) c ≡ graphs es c
