@@ -12,7 +12,8 @@ use Rattle.trees.specs.Tree.{Tree}
 use Rattle.trees.specs.Compound.{IsGraph, NumberHolds}
 use Rattle.trees.specs.Record.{Entry, shownEntry, pairs, OfTree, Derived, Saturated}
 use Rattle.numbers.proofs.Ranges.{length-upFrom}
-use Rattle.trees.proofs.Lists.{of-upFrom, distinct-upFrom, distinct-map, pigeons-numbered}
+use Rattle.numbers.proofs.Members.{upFrom-mem}
+use Rattle.trees.proofs.Lists.{distinct-upFrom, distinct-map, pigeons-numbered}
 use Rattle.trees.proofs.Shown.{entry-shown}
 use Rattle.trees.proofs.Saturation.{all-stored}
 use Rattle.trees.proofs.Numbers.{told-apart}
@@ -24,7 +25,7 @@ module _ {Graph : Type 0} (entry : ℕ → Entry Graph) (count : ℕ) where
   length-pairs = length-map (upFrom 0 count) (λ k. (entry k .symbol, entry k .graph)) ∙ length-upFrom 0 count
 
   below : (k : ℕ) → List·Memᴰ k (upFrom 0 count) → k < count
-  below k m = omega (arith, of-upFrom 0 count k m .1)
+  below k m = omega (arith, upFrom-mem 0 count m .1)
 
   pub pairs-differ :
       ((j k : ℕ) → j < count → k < count → entry j .symbol ≡ entry k .symbol → entry j .graph ≡ entry k .graph → j ≡ k)

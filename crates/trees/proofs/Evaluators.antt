@@ -10,7 +10,7 @@ use Rattle.numbers.specs.Paths.{Plus, Circle}
 use Rattle.grammar.specs.Grammar.{Grammar}
 use Rattle.trees.specs.Tree.{Tree, Complete, Instance, here, under, same, instances, TreeEdge, Valid}
 use Rattle.trees.specs.Evaluator.{State, taken, left, start, take, given, MayTake, StandsStill, Reached, Evaluator}
-use Rattle.trees.proofs.Lists.{at-cons}
+use Rattle.numbers.proofs.Members.{at-cons}
 use Rattle.trees.proofs.Paths.{first-edge, before}
 use Rattle.trees.proofs.Values.{source-there, given-free, find, Search}
 use Rattle.trees.proofs.Exactly.{once}

@@ -9,7 +9,8 @@ use Rattle.grammar.specs.Grammar.{Grammar, symbol, production}
 use Rattle.trees.specs.Tree.{Tree, node, Kids, nil, cons, Instance, here, under, instances, kidInstances}
 use Rattle.trees.specs.Address.{address, attribute, Kid, first, later, Subtree, whole, down, Stands}
 use Rattle.trees.specs.Lists.{Distinct}
-use Rattle.trees.proofs.Lists.{of-upFrom, distinct-upFrom, distinct-map, distinct-append}
+use Rattle.numbers.proofs.Members.{upFrom-mem}
+use Rattle.trees.proofs.Lists.{distinct-upFrom, distinct-map, distinct-append}
 use Rattle.trees.proofs.Values.{ith, value-root, value-under}
 
 module _ (g : Grammar) where
@@ -41,7 +42,7 @@ module _ (g : Grammar) where
   stands-node p ks y (inl m) =
       let r = Memᴰ·of-map here (upFrom 0 (symbol g (production g p .left) .count)) m in
       subst (Stands g (node p ks)) (r .2)
-      (record { p = p; ks = ks; node-there = whole; attribute-there = omega (arith, of-upFrom 0 _ (r .0) (r .1) .1) })
+      (record { p = p; ks = ks; node-there = whole; attribute-there = omega (arith, upFrom-mem 0 _ (r .1) .1) })
   stands-node p ks y (inr k) = stands-down p ks y k
 
   kid-later : (t : Tree) (ks : Kids) (j : ℕ) (y : Instance) → KidStands ks (suc j) y → KidStands (cons t ks) j y

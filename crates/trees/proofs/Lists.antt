@@ -1,13 +1,13 @@
--- Members of lists, runs of numbers, lists with no two equal elements, and pigeonholes. Assumes nothing.
-use mathlib.Core.List.{List, [], _∷_, _++_, map, List·Memᴰ, List·Memᴰ·head, List·Memᴰ·tail, List·Memᴰ·cases-cons, List·Memᴰ·not-nil, List·Memᴰ·append-cases, Memᴰ·cast, Memᴰ·map, Memᴰ·of-map}
+-- Members of lists, lists with no two equal elements, and pigeonholes. Assumes nothing.
+use mathlib.Core.List.{List, [], _∷_, _++_, map, List·Memᴰ, List·Memᴰ·head, List·Memᴰ·tail, List·Memᴰ·cases-cons, List·Memᴰ·append-cases, Memᴰ·cast, Memᴰ·map, Memᴰ·of-map}
 use mathlib.Core.Logic.{_⊎_, inr, ⊎-elim, ⊎-map}
-use mathlib.Core.Path.{_≡_, refl, sym, _∙_, ap, subst}
+use mathlib.Core.Path.{_≡_, refl, sym, _∙_, ap}
 use Prim.Native.Nat.{ℕ, zero, suc, _+_, _≤_, _<_}
-use native.Mathlib.Decide.{ℕ-discrete}
 use native.Mathlib.Omega.{arith}
 use lib.ListN.{length, getD, length-map}
 use Rattle.numbers.specs.Lists.{upFrom}
 use Rattle.numbers.proofs.Ranges.{length-upFrom}
+use Rattle.numbers.proofs.Members.{at-cons, upFrom-at, upFrom-mem}
 use Rattle.trees.specs.Lists.{Distinct}
 
 -- ---- members
@@ -18,33 +18,12 @@ getD-each P [] d h f i = h
 getD-each P (x ∷ l) d h f zero = f x (List·Memᴰ·head refl)
 getD-each P (x ∷ l) d h f (suc i) = getD-each P l d h (λ y m. f y (List·Memᴰ·tail m)) i
 
-pub at-cons : {A : Type 0} (P : A → Type 0) {y x : A} {l : List A} → P y → (List·Memᴰ x l → P x) → List·Memᴰ x (y ∷ l) → P x
-at-cons P h f m = ⊎-elim (λ e. subst P (sym e) h) f (List·Memᴰ·cases-cons m)
-
--- ---- runs of numbers
-
-pub upFrom-holds : (i n a : ℕ) → i ≤ a → a < i + n → List·Memᴰ a (upFrom i n)
-unfolding upFrom
-upFrom-holds i zero a l h = absurd (omega arith)
-upFrom-holds i (suc n) a l h = by (ℕ-discrete a i) (λ k. upFrom-holds (suc i) n a k (omega arith))
-  where
-    by : Dec (a ≡ i) → (suc i ≤ a → List·Memᴰ a (upFrom (suc i) n)) → List·Memᴰ a (i ∷ upFrom (suc i) n)
-    by (yes e) f = List·Memᴰ·head e
-    by (no k) f = List·Memᴰ·tail (f (omega arith))
-
-pub of-upFrom : (i n a : ℕ) → List·Memᴰ a (upFrom i n) → (i ≤ a) × (a < i + n)
-unfolding upFrom
-of-upFrom i zero a m = absurd (List·Memᴰ·not-nil m)
-of-upFrom i (suc n) a m =
-    at-cons (λ b. (i ≤ b) × (b < i + suc n)) (omega arith, omega arith)
-    (λ k. let h = of-upFrom (suc i) n a k in (omega (arith, h .0), omega (arith, h .1))) m
-
 -- ---- no two equal
 
 pub distinct-upFrom : (i n : ℕ) → Distinct (upFrom i n)
 unfolding upFrom
 distinct-upFrom i zero = tt
-distinct-upFrom i (suc n) = (λ m. absurd (omega (arith, of-upFrom (suc i) n i m .0)), distinct-upFrom (suc i) n)
+distinct-upFrom i (suc n) = (λ m. absurd (omega (arith, upFrom-mem (suc i) n m .0)), distinct-upFrom (suc i) n)
 
 pub distinct-map :
     {A B : Type 0} (f : A → B) (l : List A)
@@ -103,4 +82,4 @@ pigeons-numbered {A} f n l d h = omega (arith, pigeons l (map f (upFrom 0 n)) d 
     hole : (x : A) → List·Memᴰ x l → List·Memᴰ x (map f (upFrom 0 n))
     hole x m =
         let r = h x m in
-        Memᴰ·cast (sym (r .2)) (Memᴰ·map f (upFrom-holds 0 n (r .0) (omega arith) (omega (arith, r .1))))
+        Memᴰ·cast (sym (r .2)) (Memᴰ·map f (upFrom-at 0 n (r .0) (omega arith) (omega (arith, r .1))))

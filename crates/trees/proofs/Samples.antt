@@ -16,7 +16,7 @@ use Rattle.trees.specs.Tree.{Tree, node, Kids, nil, cons, Complete, OneE
 use Rattle.trees.specs.Numbered.{Numbered}
 use Rattle.trees.specs.Record.{Entry, shown}
 use Rattle.trees.specs.Small.{edge, withEdges, grammarA, grammarB, grammarC, zeroOverOne}
-use Rattle.trees.proofs.Lists.{at-cons}
+use Rattle.numbers.proofs.Members.{at-cons}
 use Rattle.trees.proofs.Paths.{no-circle}
 
 -- ---- B

@@ -11,7 +11,7 @@ use Rattle.grammar.specs.Grammar.{Grammar, production, rights}
 use Rattle.trees.specs.Tree.{Tree, node, cons, Complete, OneEach, TreeEdge, Valid}
 use Rattle.trees.specs.Compound.{OverGraphs, Makes, AreGraphs}
 use Rattle.trees.specs.Record.{Entry, row, levels, shownEntry, shown, Fits, graphs, Derived, Shows}
-use Rattle.trees.proofs.Lists.{at-cons}
+use Rattle.numbers.proofs.Members.{at-cons}
 use Rattle.trees.proofs.Values.{length-rights}
 use Rattle.trees.proofs.Graphs.{makes-graph, graphs-circle}
 

@@ -18,7 +18,8 @@ use Rattle.grammar.specs.Grammar.{Grammar, noProduction, symbol, production, ri
 use Rattle.grammar.specs.Rules.{Allowed}
 use Rattle.trees.specs.Tree.{Tree, node, Kids, nil, cons, rootSymbol, Complete, OneEach, Instance, here, under, same, at, instanceOf, instances, kidInstances, Link, Own, Joined, TreeEdge, KidEdge, Valid}
 use Rattle.trees.specs.Evaluator.{State, given}
-use Rattle.trees.proofs.Lists.{getD-each, upFrom-holds}
+use Rattle.numbers.proofs.Members.{upFrom-at}
+use Rattle.trees.proofs.Lists.{getD-each}
 
 -- a production has as many right symbols as its n says
 pub length-rights : (g : Grammar) → Valid g → (p : ℕ) → length (rights (production g p)) ≡ production g p .n
@@ -51,7 +52,7 @@ module _ (g : Grammar) where
       (Memᴰ·cast (ap (λ (n : ℕ). under n x) e) (in-kids ks 0 i x m))
 
   pub value-root : (t : Tree) (a : ℕ) → a < symbol g (rootSymbol g t) .count → List·Memᴰ (here a) (instances g t)
-  value-root (node p ks) a h = Memᴰ·append-left _ (Memᴰ·map here (upFrom-holds 0 _ a (omega arith) (omega arith)))
+  value-root (node p ks) a h = Memᴰ·append-left _ (Memᴰ·map here (upFrom-at 0 _ a (omega arith) (omega arith)))
 
   module _ (Part : ℕ → Type 0) where
     value-kid :

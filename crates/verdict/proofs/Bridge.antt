@@ -1,15 +1,14 @@
 -- What the closure of a production's compound graph says is so in the trees: the circle test finds a circle exactly if there is one, and
 -- the root's number is the graph that the production makes. Over the number w of attributes. Assumes nothing.
-use mathlib.Core.Path.{_≡_, refl, sym, ap, _∙_}
-use mathlib.Core.Bool.{Bool, true, false, cond, true≢false}
-use mathlib.Core.List.{List, [], _∷_, List·Memᴰ, List·Memᴰ·head, List·Memᴰ·tail, List·Memᴰ·cases-cons, List·Memᴰ·not-nil}
-use mathlib.Core.Logic.{_⊎_, inl, inr, ⊎-elim, _↔_}
+use mathlib.Core.Path.{_≡_}
+use mathlib.Core.Bool.{true}
+use mathlib.Core.List.{List, List·Memᴰ}
+use mathlib.Core.Logic.{inl, inr, ⊎-elim, _↔_}
 use Prim.Native.Nat.{ℕ}
 use native.Mathlib.Numerals.{one-add}
 use lib.Dec.{eqb}
 use lib.ListN.{length}
 use borrow.Author.Tests.{eqb-true, eq-eqb}
-use Rattle.numbers.specs.Lists.{keep}
 use Rattle.numbers.specs.Paths.{Circle}
 use Rattle.grammar.specs.declared.Edge.{Edge}
 use Rattle.grammar.specs.Grammar.{Grammar, production, edgesOf}
@@ -18,41 +17,15 @@ use Rattle.graph.proofs.Compound.{compound-circle, compound-root}
 use Rattle.trees.specs.Tree.{Valid, AtMost}
 use Rattle.trees.specs.Compound.{OverGraphs, Makes, NumberHolds}
 use Rattle.trees.specs.Numbered.{Numbered}
+use Rattle.numbers.proofs.Members.{keep-at, keep-mem}
 use Rattle.numbers.proofs.Ways.{carried}
 use Rattle.trees.proofs.Numbers.{source-below, target-below, numbered-circles, numbered-makes}
 use Rattle.rules.specs.Test.{systemOf}
 
--- ---- what is kept of a list
-module _ {A : Type 0} (f : A → Bool) where
-  keep-of : (xs : List A) (x : A) → List·Memᴰ x (keep f xs) → List·Memᴰ x xs × (f x ≡ true)
-  unfolding keep
-  keep-of [] x m = absurd (List·Memᴰ·not-nil m)
-  keep-of (y ∷ xs) x m = go (f y) refl m (keep-of xs x)
-    where
-      later : List·Memᴰ x xs × (f x ≡ true) → List·Memᴰ x (y ∷ xs) × (f x ≡ true)
-      later h = (List·Memᴰ·tail (h .0), h .1)
-
-      go : (b : Bool) → f y ≡ b → List·Memᴰ x (cond b (y ∷ keep f xs) (keep f xs))
-          → (List·Memᴰ x (keep f xs) → List·Memᴰ x xs × (f x ≡ true)) → List·Memᴰ x (y ∷ xs) × (f x ≡ true)
-      go true e m r = ⊎-elim (λ q. (List·Memᴰ·head q, ap f q ∙ e)) (λ q. later (r q)) (List·Memᴰ·cases-cons m)
-      go false e m r = later (r m)
-
-  keep-holds : (xs : List A) (x : A) → List·Memᴰ x xs → f x ≡ true → List·Memᴰ x (keep f xs)
-  unfolding keep
-  keep-holds [] x m t = absurd (List·Memᴰ·not-nil m)
-  keep-holds (y ∷ xs) x m t = go (f y) refl (List·Memᴰ·cases-cons m) (λ q. keep-holds xs x q t)
-    where
-      go : (b : Bool) → f y ≡ b → (x ≡ y) ⊎ List·Memᴰ x xs → (List·Memᴰ x xs → List·Memᴰ x (keep f xs))
-          → List·Memᴰ x (cond b (y ∷ keep f xs) (keep f xs))
-      go true e (inl q) r = List·Memᴰ·head q
-      go true e (inr q) r = List·Memᴰ·tail (r q)
-      go false e (inl q) r = absurd (true≢false (sym t ∙ ap f q ∙ e))
-      go false e (inr q) r = r q
-
 module _ (w : ℕ) (g : Grammar) (valid : Valid g) (few : AtMost w g) (p : ℕ) (graphs : List ℕ)
     (count : length graphs ≡ production g p .n) where
   own-edge : (e : Edge) → List·Memᴰ e (edgesOf g p) → List·Memᴰ e (g .edges) × (e .production ≡ p)
-  own-edge e m = let k = keep-of (λ (d : Edge). eqb (d .production) p) (g .edges) e m in (k .0, eqb-true (e .production) p (k .1))
+  own-edge e m = let k = keep-mem (λ (d : Edge). eqb (d .production) p) (g .edges) m in (k .0, eqb-true (e .production) p (k .1))
 
   within : EdgesWithin w (length graphs) (edgesOf g p)
   within e m =
@@ -66,7 +39,7 @@ module _ (w : ℕ) (g : Grammar) (valid : Valid g) (few : AtMost w g) (p : ℕ) 
   to-compound i j (Numbered.own e m h u v) =
       inl (record {
         edge = e;
-        given = keep-holds (λ (d : Edge). eqb (d .production) p) (g .edges) e m (eq-eqb (e .production) p h);
+        given = keep-at (λ (d : Edge). eqb (d .production) p) (g .edges) m (eq-eqb (e .production) p h);
         from = u;
         to = v;
       })

@@ -13,7 +13,7 @@ use Rattle.trees.specs.Tree.{InTable, Valid, AtMost}
 use Rattle.trees.specs.Compound.{NumberHolds}
 use Rattle.trees.specs.Record as record-of-trees
 use Rattle.trees.specs.Record.{pairs, OfTree}
-use Rattle.trees.proofs.Lists.{of-upFrom, upFrom-holds}
+use Rattle.numbers.proofs.Members.{upFrom-at, upFrom-mem}
 use Rattle.trees.proofs.Numbers.{told-apart}
 use Rattle.trees.proofs.Saturation.{all-stored}
 use Rattle.trees.proofs.Counting.{length-pairs, pairs-differ, pairs-of-trees, one-graph, counting-numbers}
@@ -45,7 +45,7 @@ module _ (w : ℕ) (g : Grammar) (valid : Valid g) (few : AtMost w g) (es : List
   pub stored-pairs : (q : ℕ × ℕ) → List·Memᴰ q (pairs (told g es) (length es)) → Pair q
   stored-pairs q m =
       let r = Memᴰ·of-map pairAt (upFrom 0 (length es)) m in
-      let l : r .0 < length es = omega (arith, of-upFrom 0 (length es) (r .0) (r .1) .1) in (
+      let l : r .0 < length es = omega (arith, upFrom-mem 0 (length es) (r .1) .1) in (
         subst (λ (z : ℕ × ℕ). z .1 < 2 ^ (w * w)) (r .2) (low (r .0) l),
         pairs-of-trees (told g es) (length es) g (NumberHolds w) (InTable g) (all-derived w g valid few es made) q m,
       )
@@ -59,7 +59,7 @@ module _ (w : ℕ) (g : Grammar) (valid : Valid g) (few : AtMost w g) (es : List
         one-graph g (NumberHolds w) (InTable g) (told g es) (length es) (λ x. x < 2 ^ (w * w)) (told-apart w) low (entry es (k .number) .graph)
         (q .1) (low (k .number) (k .among)) s t (k .graph) (o .is-graph) in
         let here : _≡_ {A = ℕ × ℕ} q (pairAt (k .number)) = λ i. (sym (k .symbol ∙ o .symbol) i, sym e i) in
-        Memᴰ·cast here (Memᴰ·map pairAt (upFrom-holds 0 (length es) (k .number) (omega arith) (omega (arith, k .among))))
+        Memᴰ·cast here (Memᴰ·map pairAt (upFrom-at 0 (length es) (k .number) (omega arith) (omega (arith, k .among))))
 
     pub no-more : (l : List (ℕ × ℕ)) → Distinct l → ((q : ℕ × ℕ) → List·Memᴰ q l → Pair q) → length l ≤ length es
     no-more = counting-numbers g w (InTable g) (told g es) (length es) low full
@@ -83,7 +83,7 @@ module _ (w : ℕ) (g : Grammar) (valid : Valid g) (few : AtMost w g) (es : List
           let r = Memᴰ·of-map pairAt (upFrom 0 (length es)) k in
           new (record {
             number = r .0;
-            among = omega (arith, of-upFrom 0 (length es) (r .0) (r .1) .1);
+            among = omega (arith, upFrom-mem 0 (length es) (r .1) .1);
             symbol = ap (λ (z : ℕ × ℕ). z .0) (r .2);
             graph = ap (λ (z : ℕ × ℕ). z .1) (r .2);
           })

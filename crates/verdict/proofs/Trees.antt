@@ -13,7 +13,7 @@ use Rattle.trees.specs.Tree.{Complete, InTable, TreeEdge, Valid, AtMost}
 use Rattle.trees.specs.Compound.{Makes, NumberHolds}
 use Rattle.trees.specs.Record as record-of-trees
 use Rattle.trees.specs.Record.{shownEntry, shown, Derived, Shows, OfTree}
-use Rattle.trees.proofs.Lists.{of-upFrom, upFrom-holds}
+use Rattle.numbers.proofs.Members.{upFrom-at, upFrom-mem}
 use Rattle.trees.proofs.Shown.{fits-below, graphs-count, shown-complete, shown-graph, shown-circle, shown-again}
 use Rattle.rules.specs.declared.Entry.{Entry}
 use Rattle.rules.specs.Passes.{System, entry, graphs}
@@ -25,10 +25,10 @@ use Rattle.verdict.proofs.Bridge.{circle-so, graph-so}
 module _ (g : Grammar) where
   -- the productions by number are those of the table
   pub in-table : (p : ℕ) → In (byNumber g) p → InTable g p
-  in-table p m = omega (arith, of-upFrom 0 (length (g .productions)) p m .1)
+  in-table p m = omega (arith, upFrom-mem 0 (length (g .productions)) m .1)
 
   pub by-number : (p : ℕ) → InTable g p → In (byNumber g) p
-  by-number p h = upFrom-holds 0 (length (g .productions)) p (omega arith) (omega arith)
+  by-number p h = upFrom-at 0 (length (g .productions)) p (omega arith) (omega arith)
 
   module _ (es : List Entry) (n : ℕ) where
     pub fits-told : (c ss : List ℕ) → Combination es n c ss → record-of-trees.Fits (told g es) n c ss
