@@ -1,25 +1,29 @@
 -- Graphs as numbers: they are told apart by their pairs, and the compound graph has the same paths and circles over numbers.
 -- Assumes nothing.
 use mathlib.Core.List.{List, [], _∷_, List·Memᴰ}
-use mathlib.Core.Logic.{_↔_}
+use mathlib.Core.Logic.{inl, inr, _↔_}
 use mathlib.Core.Path.{_≡_, refl, sym, _∙_, ap, ap₂, subst₂}
 use Prim.Native.Nat.{ℕ, zero, suc, _+_, _*_, _/_, _%_, _^_, _≤_, _<_}
 use native.Mathlib.Nat.{add-zero, div-lt-iff-lt-mul, mul-add-div, mul-add-mod-self-left, div-eq-of-lt, mod-eq-of-lt, mod-lt, div-add-mod}
+use native.Mathlib.Numerals.{one-add}
 use native.Mathlib.Omega.{arith}
+use lib.Dec.{eqb}
 use lib.ListN.{length, getD}
+use borrow.Author.Tests.{eqb-true, eq-eqb}
 use Rattle.numbers.specs.Number.{bit}
 use Rattle.numbers.specs.Paths.{Plus, one, Circle}
 use Rattle.numbers.proofs.Bits.{bit-lt, same-bit, same-bits}
+use Rattle.numbers.proofs.Members.{keep-at, keep-mem}
 use Rattle.grammar.specs.declared.Symbol.{Symbol}
 use Rattle.grammar.specs.declared.Production.{Production}
 use Rattle.grammar.specs.declared.Node.{Node}
 use Rattle.grammar.specs.declared.Edge.{Edge}
-use Rattle.grammar.specs.Grammar.{Grammar, noSymbol, production, symbolAt}
+use Rattle.grammar.specs.Grammar.{Grammar, noSymbol, production, symbolAt, edgesOf}
 use Rattle.grammar.specs.Rules.{NodeThere}
+use Rattle.graph.specs.Compound.{CompoundEdge}
 use Rattle.trees.specs.Tree.{Instance, here, under, at, Valid, AtMost}
 use Rattle.trees.specs.Address.{attribute}
 use Rattle.trees.specs.Compound.{Compound, IthHolds, OverGraphs, Makes, NumberHolds}
-use Rattle.trees.specs.Numbered.{Numbered}
 use Rattle.trees.proofs.Lists.{getD-each}
 use Rattle.trees.proofs.Paths.{first-edge, last-edge, image}
 
@@ -87,7 +91,7 @@ module _ (w : ℕ) (g : Grammar) (valid : Valid g) (few : AtMost w g) (p : ℕ) 
   C = OverGraphs g (NumberHolds w) p graphs
 
   abbrev N : ℕ → ℕ → Type 0
-  N = Numbered w g p graphs
+  N = CompoundEdge w (edgesOf g p) graphs
 
   there-below : (q : Production) (x : Node) → NodeThere g q x → x .attribute < w
   there-below q x h =
@@ -103,40 +107,56 @@ module _ (w : ℕ) (g : Grammar) (valid : Valid g) (few : AtMost w g) (p : ℕ) 
   pub target-below : (e : Edge) → List·Memᴰ e (g .edges) → e .target .attribute < w
   target-below e m = there-below (production g (e .production)) (e .target) (valid .edges e m .target)
 
+  pub own-edge : (e : Edge) → List·Memᴰ e (edgesOf g p) → List·Memᴰ e (g .edges) × (e .production ≡ p)
+  own-edge e m = let k = keep-mem (λ (d : Edge). eqb (d .production) p) (g .edges) m in (k .0, eqb-true (e .production) p (k .1))
+
   to-number : (x y : Instance) → C x y → N (number w x) (number w y)
   to-number x y (Compound.own h) =
-      Numbered.own (h .edge) (h .among) (h .which)
-      (ap (number w) (h .from) ∙ number-at w (h .edge .source .occurrence) (h .edge .source .attribute))
-      (ap (number w) (h .to) ∙ number-at w (h .edge .target .occurrence) (h .edge .target .attribute))
+      inl (record {
+        edge = h .edge;
+        given = keep-at (λ (d : Edge). eqb (d .production) p) (g .edges) (h .among) (eq-eqb (h .edge .production) p (h .which));
+        from = ap (number w) (h .from) ∙ number-at w (h .edge .source .occurrence) (h .edge .source .attribute);
+        to = ap (number w) (h .to) ∙ number-at w (h .edge .target .occurrence) (h .edge .target .attribute);
+      })
   to-number x y (Compound.pair {i = k} {a = a} {b = b} r) =
       let h = number-ith w graphs k a b r in
-      Numbered.pair k a b (h .0) (h .1 .from) (h .1 .to) (h .1 .worth) refl refl
+      let e = one-add k in
+      inr (record {
+        k = k;
+        given = h .0;
+        pair = record { a = a; b = b; a-lt = h .1 .from; b-lt = h .1 .to; from = rw e; to = rw e; there = h .1 .worth };
+      })
 
   of-number : (n m : ℕ) → N n m → C (place w n) (place w m)
-  of-number n m (Numbered.own e i h u v) =
+  of-number n m (inl h) =
+      let e = h .edge in
+      let k = own-edge e (h .given) in
       Compound.own
       (record {
         edge = e;
-        among = i;
-        which = h;
-        from = ap (place w) u ∙ place-at w (e .source .occurrence) (e .source .attribute) (source-below e i);
-        to = ap (place w) v ∙ place-at w (e .target .occurrence) (e .target .attribute) (target-below e i);
+        among = k .0;
+        which = k .1;
+        from = ap (place w) (h .from) ∙ place-at w (e .source .occurrence) (e .source .attribute) (source-below e (k .0));
+        to = ap (place w) (h .to) ∙ place-at w (e .target .occurrence) (e .target .attribute) (target-below e (k .0));
       })
-  of-number n m (Numbered.pair k a b l ha hb q u v) =
-      subst₂ C (sym (ap (place w) u ∙ place-at w (suc k) a ha)) (sym (ap (place w) v ∙ place-at w (suc k) b hb))
-      (Compound.pair (ith-number w graphs k a b l (record { from = ha; to = hb; worth = q })))
+  of-number n m (inr h) =
+      let q = h .pair in
+      let e = one-add (h .k) in
+      subst₂ C (sym (ap (place w) (rw e at (q .from)) ∙ place-at w (suc (h .k)) (q .a) (q .a-lt)))
+      (sym (ap (place w) (rw e at (q .to)) ∙ place-at w (suc (h .k)) (q .b) (q .b-lt)))
+      (Compound.pair (ith-number w graphs (h .k) (q .a) (q .b) (h .given) (record { from = q .a-lt; to = q .b-lt; worth = q .there })))
 
   -- the compound graph has the same paths over the numbers of its nodes
   pub numbered-paths :
       (o a q b : ℕ) → a < w → b < w
-      → Plus (OverGraphs g (NumberHolds w) p graphs) (at o a) (at q b) ↔ Plus (Numbered w g p graphs) (w * o + a) (w * q + b)
+      → Plus (OverGraphs g (NumberHolds w) p graphs) (at o a) (at q b) ↔ Plus (CompoundEdge w (edgesOf g p) graphs) (w * o + a) (w * q + b)
   numbered-paths o a q b ha hb = (
     λ r. subst₂ (Plus N) (number-at w o a) (number-at w q b) (image (number w) (λ x y e. one (to-number x y e)) r),
     λ r. subst₂ (Plus C) (place-at w o a ha) (place-at w q b hb) (image (place w) (λ n m e. one (of-number n m e)) r),
   )
 
   -- and a circle exactly if it has one over them
-  pub numbered-circles : Circle (OverGraphs g (NumberHolds w) p graphs) ↔ Circle (Numbered w g p graphs)
+  pub numbered-circles : Circle (OverGraphs g (NumberHolds w) p graphs) ↔ Circle (CompoundEdge w (edgesOf g p) graphs)
   numbered-circles = (
     λ c. (number w (c .0), image (number w) (λ x y e. one (to-number x y e)) (c .1)),
     λ c. (place w (c .0), image (place w) (λ n m e. one (of-number n m e)) (c .1)),
@@ -155,7 +175,7 @@ module _ (w : ℕ) (g : Grammar) (valid : Valid g) (few : AtMost w g) (p : ℕ) 
   -- a number is what the production makes of the graphs, if its bits are the paths between the numbers below w
   pub numbered-makes :
       (graph : ℕ)
-      → ((a b : ℕ) → a < w → b < w → (bit (w * a + b) graph ≡ 1) ↔ Plus (Numbered w g p graphs) a b)
+      → ((a b : ℕ) → a < w → b < w → (bit (w * a + b) graph ≡ 1) ↔ Plus (CompoundEdge w (edgesOf g p) graphs) a b)
       → Makes g (NumberHolds w) p graphs graph
   numbered-makes graph f a b = (there, back)
     where

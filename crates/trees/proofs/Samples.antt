@@ -1,19 +1,20 @@
 -- The small grammars: production 0 over production 1 has a circle in B and none in A; C has no tree at all. Assumes nothing.
 use mathlib.Core.List.{List, [], _∷_, List·Memᴰ, List·Memᴰ·head, List·Memᴰ·tail, List·Memᴰ·not-nil}
+use mathlib.Core.Logic.{inl, inr}
 use mathlib.Core.Path.{_≡_, refl}
 use Prim.Native.Nat.{ℕ, zero, suc, _≤_, _<_}
 use native.Mathlib.Omega.{arith}
 use lib.ListN.{length}
 use Rattle.numbers.specs.Number.{bit}
-use Rattle.numbers.specs.Lists.{upFrom}
+use Rattle.numbers.specs.Lists.{upFrom, keep}
 use Rattle.numbers.specs.Paths.{one, snoc, Circle}
 use Rattle.grammar.specs.declared.Symbol.{Symbol}
 use Rattle.grammar.specs.declared.Production.{Production}
 use Rattle.grammar.specs.declared.Edge.{Edge}
-use Rattle.grammar.specs.Grammar.{symbolAt}
+use Rattle.grammar.specs.Grammar.{symbolAt, edgesOf}
 use Rattle.grammar.specs.Rules.{GoodEdge}
 use Rattle.trees.specs.Tree.{Tree, node, Kids, nil, cons, Complete, OneEach, InTable, Instance, here, under, at, instanceOf, instances, Link, Own, Joined, TreeEdge, KidEdge, Circular, Valid, AtMost}
-use Rattle.trees.specs.Numbered.{Numbered}
+use Rattle.graph.specs.Compound.{CompoundEdge}
 use Rattle.trees.specs.Record.{Entry, shown}
 use Rattle.trees.specs.Small.{edge, withEdges, grammarA, grammarB, grammarC, zeroOverOne}
 use Rattle.numbers.proofs.Members.{at-cons}
@@ -59,15 +60,16 @@ circular-B = (zeroOverOne, complete-B, circle-B)
 
 -- the same over numbers: 8 → 10 → 9 → 11 → 8, where 2052 is the graph of production 1
 pub numbered-B :
-    Numbered 8 grammarB 0 (2052 ∷ []) 8 10
-    × Numbered 8 grammarB 0 (2052 ∷ []) 10 9
-    × Numbered 8 grammarB 0 (2052 ∷ []) 9 11
-    × Numbered 8 grammarB 0 (2052 ∷ []) 11 8
+    CompoundEdge 8 (edgesOf grammarB 0) (2052 ∷ []) 8 10
+    × CompoundEdge 8 (edgesOf grammarB 0) (2052 ∷ []) 10 9
+    × CompoundEdge 8 (edgesOf grammarB 0) (2052 ∷ []) 9 11
+    × CompoundEdge 8 (edgesOf grammarB 0) (2052 ∷ []) 11 8
+unfolding keep
 numbered-B = (
-  Numbered.pair 0 0 2 (omega arith) (omega arith) (omega arith) refl refl refl,
-  Numbered.own (edge 0 1 2 1 1) (List·Memᴰ·head refl) refl refl refl,
-  Numbered.pair 0 1 3 (omega arith) (omega arith) (omega arith) refl refl refl,
-  Numbered.own (edge 0 1 3 1 0) (List·Memᴰ·tail (List·Memᴰ·head refl)) refl refl refl,
+  inr (record { k = 0; given = omega arith; pair = record { a = 0; b = 2; a-lt = omega arith; b-lt = omega arith; from = refl; to = refl; there = refl } }),
+  inl (record { edge = edge 0 1 2 1 1; given = List·Memᴰ·head refl; from = refl; to = refl }),
+  inr (record { k = 0; given = omega arith; pair = record { a = 1; b = 3; a-lt = omega arith; b-lt = omega arith; from = refl; to = refl; there = refl } }),
+  inl (record { edge = edge 0 1 3 1 0; given = List·Memᴰ·tail (List·Memᴰ·head refl); from = refl; to = refl }),
 )
 
 -- the entries that the passes store for B, of which the second is not used

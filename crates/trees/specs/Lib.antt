@@ -3,7 +3,6 @@ pub mod Lists
 pub mod Tree
 pub mod Address
 pub mod Compound
-pub mod Numbered
 pub mod Evaluator
 pub mod Record
 pub mod Small
