@@ -5,8 +5,9 @@ ghost use lib.ListN.{take, replicate};
 ghost use Rattle.grammar.specs.Table.{edgesIn};
 ghost use Rattle.grammar.specs.Refusal.{refusal};
 ghost use Rattle.graph.specs.Rows.{own, placed, closedFirst, hasCircle, rootGraph};
+ghost use Rattle.rules.specs.Passes.{numberOf, productionOf};
 ghost use Rattle.passes.specs.Slices.{slices};
-ghost use Rattle.foreign.specs.Flat.{flat, kind, root, TestedFlat};
+ghost use Rattle.foreign.specs.Flat.{flat, TestedFlat};
 use grammar::Checked;
 use rules::Answer;
 use rules::Report;
@@ -30,7 +31,7 @@ fn wide(x: u16) -> u32
 }
 
 fn kind_of(answer: Answer) -> u32
-    ensures { λ r. ⌜ r ≡ kind answer ⌝ }
+    ensures { λ r. ⌜ r ≡ numberOf answer ⌝ }
 {
     match answer {
         Answer::Noncircular => 0,
@@ -42,7 +43,7 @@ fn kind_of(answer: Answer) -> u32
 }
 
 fn root_of(answer: Answer) -> u32
-    ensures { λ r. ⌜ r ≡ root answer ⌝ }
+    ensures { λ r. ⌜ r ≡ productionOf answer ⌝ }
 {
     match answer {
         Answer::Noncircular => 0,

@@ -1,12 +1,15 @@
 -- K1 to K10, and what else the rules print of their small grammars, from the tables' bytes. Assumes nothing.
-use mathlib.Core.Path.{_≡_, refl}
+use mathlib.Core.Path.{_≡_, refl, sym}
+use mathlib.Core.Bool.{Bool, true, false, cond}
 use mathlib.Core.List.{List, [], _∷_}
 use Prim.Native.Nat.{ℕ}
+use lib.Dec.{eqb}
 use lib.ListN.{replicate}
+use borrow.Author.Tests.{eqb-true}
 use Rattle.rules.specs.declared.Answer.{Answer}
-use Rattle.rules.specs.declared.Answer.the-variants.{Noncircular, Circular}
+use Rattle.rules.specs.declared.Answer.the-variants.{Noncircular, Circular, Refused, OutOfSteps, OutOfRoom}
 use Rattle.rules.specs.declared.Entry.{Entry}
-use Rattle.rules.specs.Passes.{numbered, Outcome}
+use Rattle.rules.specs.Passes.{numbered, numberOf, Outcome}
 use Rattle.rules.specs.Test.{test, opened}
 use Rattle.rules.specs.Small.{tableA, tableB, tableC, tableD, tableR, tableQ}
 
@@ -48,6 +51,16 @@ pub K :
     ∷ [])
 unfolding opened tableA tableB tableC tableD
 K = refl
+
+-- the case of a number has that number
+pub number-numbered : (k : ℕ) → numberOf (numbered k) ≡ k
+unfolding numbered
+number-numbered k = go (eqb k 8) refl (eqb k 9) refl
+  where
+    go : (a : Bool) → eqb k 8 ≡ a → (b : Bool) → eqb k 9 ≡ b → numberOf (cond a OutOfSteps (cond b OutOfRoom (Refused k))) ≡ k
+    go true e b f = sym (eqb-true k 8 e)
+    go false e true f = sym (eqb-true k 9 f)
+    go false e false f = refl
 
 abbrev made : ℕ → ℕ → ℕ → List ℕ → Entry
 made s g p kids = record { symbol = s; graph = g; production = p; kids = kids }

@@ -39,6 +39,22 @@ andThen (stopped a root s) next = stopped a root s
 unfoldable pub numbered : ℕ → Answer
 numbered k = cond (eqb k 8) OutOfSteps (cond (eqb k 9) OutOfRoom (Refused k))
 
+-- each case's number. The rules number no verdict: 0 stands for noncircular, and 255 for circular, clear of every refusal
+abbrev pub numberOf : Answer → ℕ
+numberOf Noncircular = 0
+numberOf (Circular p) = 255
+numberOf (Refused k) = k
+numberOf OutOfSteps = 8
+numberOf OutOfRoom = 9
+
+-- each case's value: the root's production, 0 where there is none
+abbrev pub productionOf : Answer → ℕ
+productionOf Noncircular = 0
+productionOf (Circular p) = p
+productionOf (Refused k) = 0
+productionOf OutOfSteps = 0
+productionOf OutOfRoom = 0
+
 -- seven slots, the unused ones 0
 unfoldable pub seven : List ℕ → List ℕ
 seven xs = xs ++ replicate (7 - length xs) 0
