@@ -1,8 +1,7 @@
--- What the promises of the test and of the lookup say, record by record. Assumes nothing.
-use mathlib.Core.Path.{_≡_, refl, sym, ap, _∙_}
-use mathlib.Core.Bool.{Bool, true, false, cond}
-use mathlib.Core.List.{List, [], _∷_}
-use Prim.Native.Nat.{ℕ, zero, suc, _+_, _-_, _≤_, _<_, zero-le}
+-- What the promise of the test says, record by record. Assumes nothing.
+use mathlib.Core.Path.{_≡_, sym, ap, _∙_}
+use mathlib.Core.List.{List}
+use Prim.Native.Nat.{ℕ, _+_, _-_, _≤_, _<_}
 use native.Mathlib.Omega.{arith}
 use lib.ListN.{length, drop, List·getD-append}
 use lib.Seq.{getD-append-add, getD-drop}
@@ -12,12 +11,10 @@ use Rattle.rules.specs.declared.Entry.{Entry}
 use Rattle.rules.specs.declared.Report.{Report}
 use Rattle.rules.specs.Passes.{Outcome, noEntry, entry}
 use Rattle.rules.specs.Test as rules
-use Rattle.records.specs.Records.{of, firstOf, roomOf, Tested}
+use Rattle.records.specs.Records.{roomOf, Tested}
 use Rattle.rules.proofs.Stored.{counted-test}
 use Rattle.passes.proofs.Testing.{test-refusal}
-use Rattle.records.proofs.Writing.{length-written}
-
--- ---- the row after a test
+use Rattle.rows.proofs.Writing.{length-written}
 
 module _ (bs : List ℕ) (limit : ℕ) (before : List Entry) (r : Report) (after : List Entry) (tested : Tested bs limit before r after) where
   abbrev stored : List Entry
@@ -50,26 +47,3 @@ module _ (bs : List ℕ) (limit : ℕ) (before : List Entry) (r : Report) (after
   -- on a refusal all is as before
   pub refused-before : (refusal 8 bs ≡ 0 → ⊥) → after ≡ before
   refused-before bad = tested .entries ∙ ap (λ (o : Outcome). written (o .entries) before) (test-refusal bs limit (roomOf before) bad)
-
--- ---- the entry that a lookup finds
-
--- k is the number of the first entry of this symbol with this graph, or how many entries there are
-pub record First (symbol graph : ℕ) (es : List Entry) (k : ℕ) : Type 0 where
-  pub within : k ≤ length es
-  pub found : k < length es → of symbol graph (entry es k) ≡ true
-  pub earlier : (i : ℕ) → i < k → of symbol graph (entry es i) ≡ false
-
-module _ (symbol graph : ℕ) where
-  pub first-is : (es : List Entry) → First symbol graph es (firstOf symbol graph es)
-  unfolding firstOf
-  first-is [] = record { within = zero-le; found = λ l. absurd (omega arith); earlier = λ i l. absurd (omega arith) }
-  first-is (e ∷ es) = go (of symbol graph e) refl (first-is es)
-    where
-      go : (b : Bool) → of symbol graph e ≡ b → First symbol graph es (firstOf symbol graph es)
-          → First symbol graph (e ∷ es) (cond b 0 (suc (firstOf symbol graph es)))
-      go true h rest = record { within = zero-le; found = λ l. h; earlier = λ i l. absurd (omega arith) }
-      go false h rest = record { within = omega (arith, rest .within); found = λ l. rest .found (omega arith); earlier = at }
-        where
-          at : (i : ℕ) → i < suc (firstOf symbol graph es) → of symbol graph (entry (e ∷ es) i) ≡ false
-          at zero l = h
-          at (suc i) l = rest .earlier i (omega arith)

@@ -1,7 +1,3 @@
 -- Laws that belong to no one function.
-pub mod Walking
-pub mod InMemory
-pub mod Arrays
-pub mod Writing
 pub mod ByRecord
 pub mod OneReading

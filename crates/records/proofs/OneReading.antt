@@ -16,27 +16,11 @@ use denote.Ref.{now}
 use denote.Triple.Clauses.{Ended, Clauses, AtExit}
 use denote.Triple.Entry.{Args, Res}
 use denote.Triple.Walked.{needs}
-use Rattle.records.proofs.entry_at as entry-at
-use Rattle.records.proofs.put_entry as put-entry
-use Rattle.records.proofs.lookup as lookup
 use Rattle.records.proofs.test as test
 
 module _ {M : Type 1} (𝓤 : URA M) (H : Heap 𝓤) (A : Atoms 𝓤) (mem : Memory → SProp 𝓤) (run : Routine → Fun 𝓤) where
   both : {φ ψ : Type 0} (χ : Type 0) → (φ → ψ → χ) → ent 𝓤 (sep 𝓤 (fact 𝓤 φ) (fact 𝓤 ψ)) (fact 𝓤 χ)
   both {φ} {ψ} χ h = needs 𝓤 ψ (fact 𝓤 φ) (λ q. fact-mono 𝓤 φ χ (λ p. h p q))
-
-  pub one-reading-entry-at : (κs : Lfts 1) (a : Args entry-at.signature κs) (x y : Res entry-at.signature κs) (s t : AtExit entry-at.ended κs)
-      → ent 𝓤 (sep 𝓤 (entry-at.clauses 𝓤 H A mem run κs a .ensures tt x s) (entry-at.clauses 𝓤 H A mem run κs a .ensures tt y t)) (fact 𝓤 (x ≡ y))
-  one-reading-entry-at κs a x y s t = both (x ≡ y) (λ p q. p ∙ sym q)
-
-  pub one-reading-put-entry : (κs : Lfts 1) (a : Args put-entry.signature κs) (x y : Res put-entry.signature κs) (s t : AtExit put-entry.ended κs)
-      → ent 𝓤 (sep 𝓤 (put-entry.clauses 𝓤 H A mem run κs a .ensures tt x s) (put-entry.clauses 𝓤 H A mem run κs a .ensures tt y t))
-      (fact 𝓤 (now (s .0) ≡ now (t .0)))
-  one-reading-put-entry κs a x y s t = both (now (s .0) ≡ now (t .0)) (λ p q. p ∙ sym q)
-
-  pub one-reading-lookup : (κs : Lfts 1) (a : Args lookup.signature κs) (x y : Res lookup.signature κs) (s t : AtExit lookup.ended κs)
-      → ent 𝓤 (sep 𝓤 (lookup.clauses 𝓤 H A mem run κs a .ensures tt x s) (lookup.clauses 𝓤 H A mem run κs a .ensures tt y t)) (fact 𝓤 (x ≡ y))
-  one-reading-lookup κs a x y s t = both (x ≡ y) (λ p q. p ∙ sym q)
 
   pub one-reading-test : (κs : Lfts 2) (a : Args test.signature κs) (x y : Res test.signature κs) (s t : AtExit test.ended κs)
       → ent 𝓤 (sep 𝓤 (test.clauses 𝓤 H A mem run κs a .ensures tt x s) (test.clauses 𝓤 H A mem run κs a .ensures tt y t))

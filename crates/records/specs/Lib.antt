@@ -1,2 +1,2 @@
--- A row of entries: where one stands in it, and what the test over a row promises.
+-- What the test over a row of entries promises.
 pub mod Records

@@ -1,25 +1,14 @@
--- A row of entries: where one stands in it, and what the test over a row promises. Assumes nothing.
-use mathlib.Core.Bool.{Bool, cond}
-use mathlib.Core.List.{List, [], _∷_}
+-- What the test over a row of entries promises. Assumes nothing.
+use mathlib.Core.List.{List}
 use mathlib.Core.Path.{_≡_}
-use Prim.Native.Nat.{ℕ, suc, min}
-use lib.Dec.{eqb}
+use Prim.Native.Nat.{ℕ, min}
 use lib.ListN.{length, replicate}
-use Rattle.numbers.specs.Lists.{both, written}
+use Rattle.numbers.specs.Lists.{written}
 use Rattle.rules.specs.declared.Entry.{Entry}
 use Rattle.rules.specs.declared.Report.{Report}
-use Rattle.rules.specs.Passes.{Outcome, noEntry, same}
+use Rattle.rules.specs.Passes.{Outcome, noEntry}
 use Rattle.rules.specs.Test.{test}
 use Rattle.records.specs.declared.Ran.{Ran}
-
--- an entry of this symbol with this graph
-abbrev pub of : ℕ → ℕ → Entry → Bool
-of symbol graph e = both (eqb (e .symbol) symbol) (same (e .graph) graph)
-
--- the number of the first entry of this symbol with this graph; where there is none, how many entries there are
-unfoldable pub firstOf : ℕ → ℕ → List Entry → ℕ
-firstOf symbol graph [] = 0
-firstOf symbol graph (e ∷ es) = cond (of symbol graph e) 0 (suc (firstOf symbol graph es))
 
 -- the room is the number of records lent, at most 4096
 abbrev pub roomOf : List Entry → ℕ

@@ -13,7 +13,7 @@ use Rattle.passes.specs.Slices.{Slices, slices}
 use Rattle.passes.specs.Follow.{entryAt, entriesTo}
 use Rattle.passes.proofs.Entries.{length-entries}
 use Rattle.records.specs.Records.{zeros}
-use Rattle.records.proofs.Writing.{written-snoc}
+use Rattle.rows.proofs.Writing.{written-snoc}
 use Rattle.records.proofs.rows_of.Statement.{statement}
 use Rattle.records.proofs.rows_of.Tie as tie
 use Rattle.records.proofs.rows_of.Reads as reads

@@ -48,10 +48,10 @@ use denote.Exit.{yes}
 use Rattle.numbers.specs.Lists.{written}
 use Rattle.rules.specs.declared.Entry.{Entry}
 use Rattle.rules.specs.Passes.{noEntry, entry}
-use Rattle.records.proofs.InMemory.{size, bytes-fit, Row, entryTy, vals, tells, makes, typed}
-use Rattle.records.proofs.Arrays.{Rows, rowsTy, rows-val, rows-vals, rows-tells, rows-makes, rows-typed, array-in, array-out}
-use Rattle.records.proofs.Walking.{spare, held, locals, lets-go, slice-again}
-use Rattle.records.proofs.Writing.{written-more, length-taken}
+use Rattle.rows.proofs.InMemory.{size, bytes-fit, Row, entryTy, vals, tells, makes, typed}
+use Rattle.rows.proofs.Arrays.{Rows, rowsTy, rows-val, rows-vals, rows-tells, rows-makes, rows-typed, array-in, array-out}
+use Rattle.rows.proofs.Walking.{spare, held, locals, lets-go, slice-again}
+use Rattle.rows.proofs.Writing.{written-more, length-taken}
 use Rattle.records.proofs.store.Key.{name as #records·store}
 use Rattle.records.proofs.store as f
 use Rattle.records.proofs.store.Statement as stated

@@ -52,10 +52,10 @@ use Rattle.records.specs.declared.Ran.{Ran}
 use Rattle.records.specs.Records.{ranOf, roomOf}
 use Rattle.records.proofs.Ran as ran
 use Rattle.records.proofs.Ran.Laws as of-ran
-use Rattle.records.proofs.InMemory.{Row}
-use Rattle.records.proofs.Arrays.{Rows, rows-makes, field-val, as-rows}
-use Rattle.records.proofs.Walking.{locals, lets-go, gives}
-use Rattle.records.proofs.Writing.{length-taken}
+use Rattle.rows.proofs.InMemory.{Row}
+use Rattle.rows.proofs.Arrays.{Rows, rows-makes, field-val, as-rows}
+use Rattle.rows.proofs.Walking.{locals, lets-go, gives}
+use Rattle.rows.proofs.Writing.{length-taken}
 use Rattle.rules.proofs.Stored.{counted-test}
 use Rattle.records.proofs.run as run
 use Rattle.records.proofs.run.Symbol as run-def

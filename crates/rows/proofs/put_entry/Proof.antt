@@ -1,4 +1,4 @@
--- `records::put_entry` meets its promise: a walk of its MIR. Where the place is in the row, the borrow is opened, the entry is taken out of
+-- `rows::put_entry` meets its promise: a walk of its MIR. Where the place is in the row, the borrow is opened, the entry is taken out of
 -- the row and stored to, and the borrow is closed at the row with the new entry in it; elsewhere nothing is done. Assumes nothing.
 use mathlib.Core.Path.{_≡_, refl, sym}
 use Prim.Native.Nat.{ℕ, _<_, _^_}
@@ -39,13 +39,13 @@ use denote.Triple.Walked.{says, Stays, stay-slice, stay-none, walkOf, goes-slice
 use denote.Exit.{yes}
 use Rattle.rules.specs.declared.Entry.{Entry}
 use Rattle.rules.specs.Passes.{noEntry}
-use Rattle.records.proofs.InMemory.{size, bytes-fit, Row, entryTy, val, vals, tells, makes, typed}
-use Rattle.records.proofs.Walking.{locals, lets-go, slice-again}
-use Rattle.records.proofs.put_entry.Key.{name as #records·put-entry}
-use Rattle.records.proofs.put_entry as f
-use Rattle.records.proofs.put_entry.Statement as stated
-use Rattle.records.proofs.put_entry.Code as code
-use Rattle.records.proofs.put_entry.Code.Mir as Mir
+use Rattle.rows.proofs.InMemory.{size, bytes-fit, Row, entryTy, val, vals, tells, makes, typed}
+use Rattle.rows.proofs.Walking.{locals, lets-go, slice-again}
+use Rattle.rows.proofs.put_entry.Key.{name as #rows·put-entry}
+use Rattle.rows.proofs.put_entry as f
+use Rattle.rows.proofs.put_entry.Statement as stated
+use Rattle.rows.proofs.put_entry.Code as code
+use Rattle.rows.proofs.put_entry.Code.Mir as Mir
 
 abbrev stayed : Stays (f.ended .signature .params) (f.ended .kept)
 stayed = (stay-slice (0 ∷ []) tt (plain (λ _. Row)), (stay-none (λ _. usize) yes, (stay-none (λ _. Row) yes, tt)))
@@ -124,5 +124,5 @@ pub put-entry-spec : {M : Type 1} → stated.statement M
 unfolding code.routine tablesOf
 put-entry-spec 𝓤 H 𝓜 𝓖 𝓡 =
     entered 𝓤 H (tripleOf 𝓤 H (𝓖 .A) f.signature (f.spec 𝓤 H (𝓖 .A) (𝓜 .mem) (𝓡 .run)))
-    (tables 𝓤 H 𝓜 𝓡 code.env .C) (tables 𝓤 H 𝓜 𝓡 code.env .Λ) #records·put-entry code.function (code.unfolded 𝓤 H 𝓜 𝓡)
+    (tables 𝓤 H 𝓜 𝓡 code.env .C) (tables 𝓤 H 𝓜 𝓡 code.env .Λ) #rows·put-entry code.function (code.unfolded 𝓤 H 𝓜 𝓡)
     (put-entry-meets 𝓤 H (𝓖 .A) (givenOf 𝓤 H 𝓜 𝓖) (𝓜 .mem) (𝓡 .run) (tablesOf 𝓤 H 𝓜 (tables 𝓤 H 𝓜 𝓡 code.env)))

@@ -1,8 +1,8 @@
--- `records::is_of` meets its promise. Assumes nothing.
+-- `rows::is_of` meets its promise. Assumes nothing.
 use borrow.Author.Tests.{eq-eqb, ne-eqb}
 use Rattle.numbers.specs.Lists.{both}
-use Rattle.records.proofs.is_of.Statement.{statement}
-use Rattle.records.proofs.is_of.Tie as tie
+use Rattle.rows.proofs.is_of.Statement.{statement}
+use Rattle.rows.proofs.is_of.Tie as tie
 
 returns : tie.Need-returns
 unfolding both

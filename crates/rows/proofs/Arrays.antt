@@ -26,7 +26,7 @@ use denote.Index.{row}
 use denote.Steps.{owned}
 use denote.Struct.Steps.{spelt}
 use Rattle.rules.specs.declared.Entry.{Entry}
-use Rattle.records.proofs.InMemory.{Row, entryTy, val, vals, tells, makes, lawful, fieldRow, into, fieldVal}
+use Rattle.rows.proofs.InMemory.{Row, entryTy, val, vals, tells, makes, lawful, fieldRow, into, fieldVal}
 
 -- ---- the array's type, its machine value, and its laws
 

@@ -1,5 +1,5 @@
--- What every walk of this crate does, whatever it walks over: it frees its locals, and it calls a function whose promise says what comes
--- back. Assumes `Given`.
+-- What every walk over a row does, here and in `records`: it frees its locals, and it calls a function whose promise says what comes back.
+-- Assumes `Given`.
 use mathlib.Core.Path.{_≡_, refl, sym, ap, subst}
 use mathlib.Core.Bool.{Bool, true, false, not}
 use mathlib.Core.List.{List, [], _∷_}

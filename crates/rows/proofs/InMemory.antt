@@ -1,6 +1,6 @@
--- How an entry lies in memory, for every walk of this crate. No walk looks into an entry: it is read, stored and handed on whole, by the
--- names that stand here. So an entry with one field more changes `size` here (the factor of the index in `rt mir records`), and in
--- src/lib.rt the two functions that name the fields, `no_entry` and `entry_of`; no walk changes.
+-- How an entry lies in memory, for every walk over a row, here and in `records`. No walk looks into an entry: it is read, stored and handed
+-- on whole, by the names that stand here. So an entry with one field more changes `size` here (the factor of the index in `rt mir rows`), and
+-- in the code what names the fields: `no_entry` here, `no_entries` and `entry_of` in `records`; no walk changes.
 -- Assumes `Given`.
 use mathlib.Core.List.{List, [], _∷_}
 use Prim.Native.Nat.{ℕ, _*_, _<_, _^_}

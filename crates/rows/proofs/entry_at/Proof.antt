@@ -1,4 +1,4 @@
--- `records::entry_at` meets its promise: a walk of its MIR. Where the place is in the row, the slice is looked into, the entry is taken out
+-- `rows::entry_at` meets its promise: a walk of its MIR. Where the place is in the row, the slice is looked into, the entry is taken out
 -- of the row, read, and put back; elsewhere the entry of zeros is made. Assumes nothing.
 use mathlib.Core.Path.{_≡_, refl, sym, ap, subst}
 use Prim.Native.Nat.{ℕ, _<_, _^_}
@@ -41,17 +41,17 @@ use denote.Triple.Walked.{says, Stays, stay-none-slice, stay-none, walkOf, goes-
 use denote.Exit.{yes}
 use Rattle.rules.specs.declared.Entry.{Entry}
 use Rattle.rules.specs.Passes.{noEntry, entry}
-use Rattle.records.proofs.InMemory.{size, bytes-fit, Row, entryTy, val, vals, tells, makes, copies, typed}
-use Rattle.records.proofs.Walking.{locals, lets-go, gives}
-use Rattle.records.proofs.no_entry as none
-use Rattle.records.proofs.no_entry.Symbol as none-def
-use Rattle.records.proofs.no_entry.Symbol.{name as #records·no-entry}
-use Rattle.records.proofs.no_entry.Met as none-thm
-use Rattle.records.proofs.entry_at.Key.{name as #records·entry-at}
-use Rattle.records.proofs.entry_at as f
-use Rattle.records.proofs.entry_at.Statement as stated
-use Rattle.records.proofs.entry_at.Code as code
-use Rattle.records.proofs.entry_at.Code.Mir as Mir
+use Rattle.rows.proofs.InMemory.{size, bytes-fit, Row, entryTy, val, vals, tells, makes, copies, typed}
+use Rattle.rows.proofs.Walking.{locals, lets-go, gives}
+use Rattle.rows.proofs.no_entry as none
+use Rattle.rows.proofs.no_entry.Symbol as none-def
+use Rattle.rows.proofs.no_entry.Symbol.{name as #rows·no-entry}
+use Rattle.rows.proofs.no_entry.Met as none-thm
+use Rattle.rows.proofs.entry_at.Key.{name as #rows·entry-at}
+use Rattle.rows.proofs.entry_at as f
+use Rattle.rows.proofs.entry_at.Statement as stated
+use Rattle.rows.proofs.entry_at.Code as code
+use Rattle.rows.proofs.entry_at.Code.Mir as Mir
 
 abbrev stayed : Stays (f.ended .signature .params) (f.ended .kept)
 stayed = (stay-none-slice (0 ∷ []) tt (plain (λ _. Row)) yes, (stay-none (λ _. usize) yes, tt))
@@ -90,7 +90,7 @@ module _ {M : Type 1} (𝓤 : URA M) (H : Heap 𝓤) (A : Atoms 𝓤) (W : Given
   goes-there : ent 𝓤 (emp 𝓤) (None .pre to-none)
   goes-there = qed W [] ∵ suffices ! (onEntry 𝓤 H A none.signature tt tt tt tt) (∗emp 𝓤 _) $ nothing ! $ nothing ! $ done !
 
-  module _ (C : Calls 𝓤 H) (Λ : Loops 𝓤 H) (fm : FmC 𝓤 H (W .laws) C) (known : Triple 𝓤 (C #records·no-entry) None) where
+  module _ (C : Calls 𝓤 H) (Λ : Loops 𝓤 H) (fm : FmC 𝓤 H (W .laws) C) (known : Triple 𝓤 (C #rows·no-entry) None) where
     walk : Room Row (length ys) → i < 2 ^ 64 → ent 𝓤 (onEntry 𝓤 H A f.signature (κ, tt) (q, tt) args at) (WpFn 𝓤 H C Λ code.function machine Post)
     walk room gi =
         qed W ((‵ (flft κ q) ⊛ ‵ ftrue) ∷ ‵ (owns (ShrSlice (named 0) κ Row ∷ usize ∷ []) args at) ∷ []) ∵ enter ! C Λ code.function machine _ $
@@ -122,7 +122,7 @@ module _ {M : Type 1} (𝓤 : URA M) (H : Heap 𝓤) (A : Atoms 𝓤) (W : Given
         returns ! (look ! 19 refl) $ move ! (locals 8 5) $ lets-go ! $ lets-go ! $ lets-go ! $ lets-go ! $ lets-go ! $ free1 ! $ free1 ! $ free1 ! $ free0 ! $
         keep ! (0 ∷ 1 ∷ 2 ∷ []) $ by ! (exits noEntry (sym (List·getD-eq-default ys noEntry (nltb→le i (length ys) test))) (subst (Is Row noEntry) (tells noEntry _ g) g)))))))))))))
 
-entry-at-meets : {M : Type 1} (𝓤 : URA M) (H : Heap 𝓤) (A : Atoms 𝓤) (W : Given 𝓤 H A) (mem : Memory → SProp 𝓤) (run : Routine → Fun 𝓤) (𝓣 : Tables 𝓤 H) → Triple 𝓤 (𝓣 .C #records·no-entry) (tripleOf 𝓤 H A none.signature (none.spec 𝓤 H A mem run))
+entry-at-meets : {M : Type 1} (𝓤 : URA M) (H : Heap 𝓤) (A : Atoms 𝓤) (W : Given 𝓤 H A) (mem : Memory → SProp 𝓤) (run : Routine → Fun 𝓤) (𝓣 : Tables 𝓤 H) → Triple 𝓤 (𝓣 .C #rows·no-entry) (tripleOf 𝓤 H A none.signature (none.spec 𝓤 H A mem run))
     → Meets 𝓤 H A f.signature (WpFn 𝓤 H (𝓣 .C) (𝓣 .Λ) code.function) (f.spec 𝓤 H A mem run)
 entry-at-meets 𝓤 H A W mem run 𝓣 known =
     walk-meets 𝓤 H A f.ended stayed W (goes-none-slice 𝓤 H A W 1 (0 ∷ []) tt (plain (λ _. Row)) yes, (goes-none 𝓤 H A W 1 (λ _. usize) yes (λ κs x f. refl), tt)) (f.clauses 𝓤 H A mem run)
@@ -135,6 +135,6 @@ pub entry-at-spec : {M : Type 1} → stated.statement M
 unfolding code.routine tablesOf
 entry-at-spec 𝓤 H 𝓜 𝓖 𝓡 =
     entered 𝓤 H (tripleOf 𝓤 H (𝓖 .A) f.signature (f.spec 𝓤 H (𝓖 .A) (𝓜 .mem) (𝓡 .run)))
-    (tables 𝓤 H 𝓜 𝓡 code.env .C) (tables 𝓤 H 𝓜 𝓡 code.env .Λ) #records·entry-at code.function (code.unfolded 𝓤 H 𝓜 𝓡)
+    (tables 𝓤 H 𝓜 𝓡 code.env .C) (tables 𝓤 H 𝓜 𝓡 code.env .Λ) #rows·entry-at code.function (code.unfolded 𝓤 H 𝓜 𝓡)
     (entry-at-meets 𝓤 H (𝓖 .A) (givenOf 𝓤 H 𝓜 𝓖) (𝓜 .mem) (𝓡 .run) (tablesOf 𝓤 H 𝓜 (tables 𝓤 H 𝓜 𝓡 code.env))
-    (cited 𝓤 H (tripleOf 𝓤 H (𝓖 .A) none.signature (none.spec 𝓤 H (𝓖 .A) (𝓜 .mem) (𝓡 .run))) 𝓜 𝓡 code.env #records·no-entry none-def.routine code.calls-records·no-entry (none-thm.met 𝓤 H 𝓜 𝓖 𝓡)))
+    (cited 𝓤 H (tripleOf 𝓤 H (𝓖 .A) none.signature (none.spec 𝓤 H (𝓖 .A) (𝓜 .mem) (𝓡 .run))) 𝓜 𝓡 code.env #rows·no-entry none-def.routine code.calls-rows·no-entry (none-thm.met 𝓤 H 𝓜 𝓖 𝓡)))

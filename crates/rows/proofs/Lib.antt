@@ -1,0 +1,7 @@
+-- Laws that belong to no one function.
+pub mod Walking
+pub mod InMemory
+pub mod Arrays
+pub mod Writing
+pub mod First
+pub mod OneReading
