@@ -28,11 +28,11 @@ pub fn entry_at(entries: &[Entry], at: usize) -> Entry
 }
 
 // Stores an entry at a place of the row; past its end nothing changes.
-pub fn put_entry(entries: &mut [Entry], at: usize, e: Entry)
-    ensures { λ _. ⌜ now (entries .exit) ≡ set (now (entries .entry)) at e ⌝ }
+pub fn put_entry(entries: &mut [Entry], to: usize, e: Entry)
+    ensures { λ _. ⌜ now (entries .exit) ≡ set (now (entries .entry)) to e ⌝ }
 {
-    if at < entries.len() {
-        entries[at] = e;
+    if to < entries.len() {
+        entries[to] = e;
     }
 }
 
