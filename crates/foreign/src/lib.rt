@@ -17,7 +17,7 @@ use rules::Report;
 pub extern "C" fn circ_check(table: &[u8]) -> u8
     ensures { λ r. ⌜ r ≡ refusal 8 (now (table .entry)) ⌝ }
 {
-    let checked = tables::check(table);
+    let checked = checks::check(table);
     match checked {
         Checked::Good => 0,
         Checked::Refused(number) => number,

@@ -17,8 +17,8 @@ use Rattle.grammar.specs.Grammar.{Grammar, production}
 use Rattle.grammar.specs.Table.{E, grammarOf}
 use Rattle.grammar.specs.Rules.{key}
 use Rattle.grammar.specs.Refusal.{edgeOk, oneEdge, edgesFrom, edgesRefusal}
-use Rattle.grammar.specs.Reading.{checked}
-use Rattle.grammar.specs.Steps.{orRefused, edgeAt, edgeRead, handedUp, whole, inOrder}
+use Rattle.grammar.specs.Reading.{checked, edgeAt}
+use Rattle.grammar.specs.Steps.{orRefused, edgeRead, handedUp, whole, inOrder}
 use Rattle.grammar.proofs.Read.{the-type}
 
 pub order-first : (i : ℕ) (before e : Edge) → i ≡ 0 → true ≡ inOrder i before e

@@ -1,4 +1,4 @@
--- What the functions of this crate answer: the check, the header, the run of a production's edges. Assumes nothing.
+-- What the functions over a table answer: the check, the header, an edge by its number, the run of a production's edges. Assumes nothing.
 use mathlib.Core.Bool.{cond}
 use mathlib.Core.List.{List, []}
 use Prim.Native.Nat.{ℕ, zero, suc, _+_, _-_, _*_, _^_}
@@ -9,7 +9,8 @@ use Rattle.numbers.specs.Lists.{both}
 use Rattle.grammar.specs.declared.Checked.{Checked}
 use Rattle.grammar.specs.declared.Checked.the-variants.{Good, Refused}
 use Rattle.grammar.specs.declared.Header.{Header}
-use Rattle.grammar.specs.Table.{N, P, E, startOf, atEdges}
+use Rattle.grammar.specs.declared.Edge.{Edge}
+use Rattle.grammar.specs.Table.{N, P, E, startOf, atEdges, edgeIn}
 
 -- 0 is no refusal, and any other number is that refusal
 unfoldable pub checked : ℕ → Checked
@@ -18,6 +19,10 @@ checked (suc k) = Refused (suc k)
 
 abbrev pub headerOf : List ℕ → Header
 headerOf bs = record { symbols = N bs; productions = P bs; edges = E bs; start = startOf bs }
+
+-- the edge record i of a table
+abbrev pub edgeAt : List ℕ → ℕ → Edge
+edgeAt bs i = edgeIn bs (atEdges bs + 6 * i)
 
 -- the production of the edge record i
 abbrev pub producing : List ℕ → ℕ → ℕ

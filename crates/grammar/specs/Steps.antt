@@ -1,7 +1,7 @@
 -- What the parts of the check answer. No promise of a public function speaks of it. Assumes nothing.
 use mathlib.Core.Bool.{Bool, true, false}
 use mathlib.Core.List.{List}
-use Prim.Native.Nat.{ℕ, zero, suc, _+_, _*_}
+use Prim.Native.Nat.{ℕ, zero, suc}
 use Rattle.numbers.specs.Lists.{below}
 use Rattle.grammar.specs.declared.Symbol.{Symbol}
 use Rattle.grammar.specs.declared.Production.{Production}
@@ -9,7 +9,7 @@ use Rattle.grammar.specs.declared.Edge.{Edge}
 use Rattle.grammar.specs.declared.Checked.{Checked}
 use Rattle.grammar.specs.declared.Read.{Read}
 use Rattle.grammar.specs.Grammar.{production}
-use Rattle.grammar.specs.Table.{atEdges, edgeIn, grammarOf}
+use Rattle.grammar.specs.Table.{grammarOf}
 use Rattle.grammar.specs.Rules.{key}
 use Rattle.grammar.specs.Refusal.{symbolOk, productionOk, edgeOk}
 
@@ -40,10 +40,6 @@ whole k false = Checked.Refused k
 unfoldable pub inOrder : ℕ → Edge → Edge → Bool
 inOrder zero before e = true
 inOrder (suc i) before e = below (key before) (key e)
-
--- the edge record i of a table
-abbrev pub edgeAt : List ℕ → ℕ → Edge
-edgeAt bs i = edgeIn bs (atEdges bs + 6 * i)
 
 -- an edge of a table by its number, after the edge before it: 6 before 7
 abbrev pub edgeRead : List ℕ → ℕ → Edge → Edge → Read

@@ -481,7 +481,7 @@ pub fn test(
         (slices (now (symbols .entry)) (now (graphs .entry)) (now (productions .entry)) (now (kids .entry))) r
         (slices (now (symbols .exit)) (now (graphs .exit)) (now (productions .exit)) (now (kids .exit))) ⌝ }
 {
-    let checked = tables::check(table);
+    let checked = checks::check(table);
     if let Checked::Refused(number) = checked {
         return Report {
             answer: Answer::Refused(number),

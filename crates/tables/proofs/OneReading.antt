@@ -2,21 +2,18 @@
 use mathlib.Core.Path.{sym, _∙_}
 use denote.Ref.{now}
 use Rattle.numbers.proofs.Reading.{OneOutcome, OneResult}
-use Rattle.tables.proofs.check.Kinds as check-kinds
-use Rattle.tables.proofs.check.Reads as check-reads
 use Rattle.tables.proofs.header_of.Kinds as header-of-kinds
 use Rattle.tables.proofs.header_of.Reads as header-of-reads
 use Rattle.tables.proofs.symbol_of.Kinds as symbol-of-kinds
 use Rattle.tables.proofs.symbol_of.Reads as symbol-of-reads
 use Rattle.tables.proofs.production_of.Kinds as production-of-kinds
 use Rattle.tables.proofs.production_of.Reads as production-of-reads
+use Rattle.tables.proofs.edge_at.Kinds as edge-at-kinds
+use Rattle.tables.proofs.edge_at.Reads as edge-at-reads
 use Rattle.tables.proofs.edge_of.Kinds as edge-of-kinds
 use Rattle.tables.proofs.edge_of.Reads as edge-of-reads
 use Rattle.tables.proofs.run_of.Kinds as run-of-kinds
 use Rattle.tables.proofs.run_of.Reads as run-of-reads
-
-pub one-reading-check : OneResult 1 check-kinds.ps check-kinds.r check-reads.Post
-one-reading-check κs a x y s t p q = p ∙ sym q
 
 pub one-reading-header-of : OneResult 1 header-of-kinds.ps header-of-kinds.r header-of-reads.Post
 one-reading-header-of κs a x y s t p q = p ∙ sym q
@@ -26,6 +23,9 @@ one-reading-symbol-of κs a x y s t p q = p ∙ sym q
 
 pub one-reading-production-of : OneResult 1 production-of-kinds.ps production-of-kinds.r production-of-reads.Post
 one-reading-production-of κs a x y s t p q = p ∙ sym q
+
+pub one-reading-edge-at : OneResult 1 edge-at-kinds.ps edge-at-kinds.r edge-at-reads.Post
+one-reading-edge-at κs a x y s t p q = p ∙ sym q
 
 pub one-reading-edge-of : OneResult 1 edge-of-kinds.ps edge-of-kinds.r edge-of-reads.Post
 one-reading-edge-of κs a x y s t p q = p ∙ sym q

@@ -1,0 +1,23 @@
+-- `checks::symbol_there` meets its contract. Assumes nothing.
+use mathlib.Core.Path.{ap, _∙_}
+use borrow.Author.Needs.{needs}
+use Rattle.grammar.specs.Table.{grammarOf}
+use Rattle.grammar.specs.Grammar.{symbol}
+use Rattle.checks.proofs.symbol_there.Statement.{statement}
+use Rattle.checks.proofs.symbol_there.Tie as tie
+
+symbol-at-requires : tie.Need-symbol-at-requires
+symbol-at-requires c κs = search needs
+
+cast-symbol-of : tie.Need-cast-symbol-of
+cast-symbol-of c = search needs
+
+symbol-of-requires : tie.Need-symbol-of-requires
+symbol-of-requires c κs = search needs
+
+returns : tie.Need-returns
+returns c = c .symbol-of .ensures ∙ ap (symbol (grammarOf (c .before .before .before .args .table .now))) (c .before .symbol-at .ensures)
+
+pub symbol-there-spec : {M : Type 1} → statement M
+symbol-there-spec =
+    tie.close (tie.spec symbol-at-requires cast-symbol-of symbol-of-requires returns)
