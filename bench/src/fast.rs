@@ -2,24 +2,9 @@
 //! refused, and its entries stand in slices, one for each field. `LEAVE_OUT` says whether the steps of a closure that change nothing
 //! are left out, as the proved library does.
 
-pub const MOST_RIGHT: usize = 7;
+use kusillaqe::{Answer, Report};
 
-#[derive(Clone, Copy, Debug, PartialEq, Eq)]
-pub enum Answer {
-    Noncircular,
-    Circular(u16),
-    OutOfSteps,
-    OutOfRoom,
-}
-
-#[derive(Clone, Copy, Debug, PartialEq, Eq)]
-pub struct Report {
-    pub answer: Answer,
-    pub closures: u32,
-    pub entries: u16,
-    pub passes: u16,
-    pub root: [u16; MOST_RIGHT],
-}
+const MOST_RIGHT: usize = 7;
 
 pub struct Entries {
     pub symbols: Vec<u16>,
