@@ -19,7 +19,7 @@ pub record Reported (bs old new : List ℕ) (r : ℕ) : Type 0 where
   pub text : new ≡ written (reportOf bs) old
   pub count : r ≡ length (reportOf bs)
 
--- the bytes that were read are the buffer's
+-- no more bytes are read than the buffer has
 abbrev pub Within : Input → List ℕ → Type 0
 Within (Bytes n) buf = n ≤ length buf
 Within Unread buf = Unit {0}

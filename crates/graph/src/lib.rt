@@ -1,7 +1,7 @@
 // Graphs as rows of bits: 64 rows of 64 bits, a row for each attribute of the eight occurrences that a production has at most.
 ghost use mathlib.Core.Path.{_≡_};
 ghost use Prim.Native.Nat.{_*_, _+_, _<_, _≤_, min};
-ghost use lib.ListN.{length, take, drop, replicate};
+ghost use lib.ListN.{length, take, replicate};
 ghost use Rattle.grammar.specs.Table.{nodeIn, edgesIn};
 ghost use Rattle.graph.specs.Rows.{node, link, own, placed, through, mapFirst, targetsTo, closedFirst, hasCircle, rootGraph};
 

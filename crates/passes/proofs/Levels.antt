@@ -14,7 +14,7 @@ use Rattle.passes.specs.declared.Run.{Run}
 use Rattle.passes.specs.declared.Task.{Task}
 use Rattle.rules.specs.Passes.{State, Ran, going, entry, seven, try, tries}
 use Rattle.passes.specs.Slices.{Slices}
-use Rattle.passes.specs.Follow.{entryAt, entriesTo, Follows, Ready, Picked, turnBy, systemBy, combosFrom}
+use Rattle.passes.specs.Follow.{entryAt, entriesTo, Follows, Ready, Picked, systemBy, combosFrom}
 use Rattle.passes.proofs.Entries.{length-snoc, length-entries, entry-at}
 use Rattle.passes.proofs.Combinations.{between, between-split, between-hit, between-other, between-none, later, combos-leaf, combos-level, combos-next}
 use Rattle.passes.proofs.Following.{follows-nothing, follows-still, follows-then, follows-same, tries-append, tries-one, tries-none}
@@ -22,28 +22,28 @@ use Rattle.passes.proofs.Six.{length-picked}
 
 -- the rule of a task over some combinations
 abbrev pub over : Task → List ℕ → List (List ℕ) → ℕ → State → Ran
-over k rows cs limit = tries (systemBy (turnBy k rows)) limit (k .room) (k .number) cs
+over k rows cs limit = tries (systemBy k rows) limit (k .room) (k .number) cs
 
 -- one list of combinations after the other
 pub over-then : (k : Task) (rows : List ℕ) (σ τ υ : Slices) (r q p : Run) (a b c : List (List ℕ)) → a ++ b ≡ c
     → Follows (k .room) (over k rows a) σ r τ q → Follows (k .room) (over k rows b) τ q υ p → Follows (k .room) (over k rows c) σ r υ p
 over-then k rows σ τ υ r q p a b c e f g =
     follows-same (k .room) σ r _ (over k rows c) υ p (follows-then (k .room) σ r (over k rows a) (over k rows b) τ q f υ p g)
-    (λ limit s. tries-append (systemBy (turnBy k rows)) limit (k .room) (k .number) a b s
+    (λ limit s. tries-append (systemBy k rows) limit (k .room) (k .number) a b s
     ∙ ap (λ (l : List (List ℕ)). over k rows l limit s) e)
 
 pub over-none : (k : Task) (rows : List ℕ) (σ : Slices) (r : Run) (cs : List (List ℕ)) → cs ≡ [] → r .stored ≤ k .room → Follows (k .room) (over k rows cs) σ r σ r
 over-none k rows σ r cs e h =
     follows-same (k .room) σ r (λ limit. going) (over k rows cs) σ r (follows-nothing (k .room) σ r h)
-    (λ limit s. tries-none (systemBy (turnBy k rows)) limit (k .room) (k .number) s ∙ ap (λ (l : List (List ℕ)). over k rows l limit s) (sym e))
+    (λ limit s. tries-none (systemBy k rows) limit (k .room) (k .number) s ∙ ap (λ (l : List (List ℕ)). over k rows l limit s) (sym e))
 
 -- below the last right symbol
 pub level-leaf : (k : Task) (rows : List ℕ) (es : List Entry) (σ : Slices) (r : Run) (n : ℕ) (picked : List ℕ) (τ : Slices) (q : Run) → n ≡ k .count
-    → Follows (k .room) (λ limit. try (systemBy (turnBy k rows)) limit (k .room) (k .number) (take (k .count) picked)) σ r τ q
+    → Follows (k .room) (λ limit. try (systemBy k rows) limit (k .room) (k .number) (take (k .count) picked)) σ r τ q
     → Follows (k .room) (over k rows (combosFrom k es n picked)) σ r τ q
 level-leaf k rows es σ r n picked τ q e f =
     follows-same (k .room) σ r _ (over k rows (combosFrom k es n picked)) τ q f
-    (λ limit s. tries-one (systemBy (turnBy k rows)) limit (k .room) (k .number) (take (k .count) picked) s
+    (λ limit s. tries-one (systemBy k rows) limit (k .room) (k .number) (take (k .count) picked) s
     ∙ ap (λ (l : List (List ℕ)). over k rows l limit s) (sym (combos-leaf k es n picked e)))
 
 -- where a level begins with the slices σ₀: the combinations by the entries with numbers from i on, of which there are m

@@ -19,18 +19,18 @@ use Rattle.passes.specs.declared.Verdict.the-variants.{Steps, Circle, Kn
 use Rattle.rules.specs.Passes.{State, Ran, going, stopped, andThen, numbered, noRoot, known, six, counted, stored, graphs, try}
 use Rattle.rules.proofs.Stored.{length-seven}
 use Rattle.passes.specs.Slices.{Slices}
-use Rattle.passes.specs.Follow.{goesOn, stops, stateOf, ranOf, Follows, Ready, Picked, turnBy, systemBy, seenIn, graphsOf, verdict, judged}
+use Rattle.passes.specs.Follow.{goesOn, stops, stateOf, ranOf, Follows, Ready, Picked, systemBy, seenIn, graphsOf, verdict, judged}
 use Rattle.passes.proofs.Entries.{length-entries, seen-known, graphs-same, put, put-stay, put-entries, set-beyond, sets-beyond}
 use Rattle.passes.proofs.Following.{kept-same, going-by}
 
 -- the verdict from the answers of the four tests
 pub judged-by : (k : Task) (rows symbols graphs : List ℕ) (r : Run) (picked : List ℕ) (steps circle known full : Bool) (graph : ℕ)
     → eqb (r .left) 0 ≡ steps
-    → circle ≡ systemBy (turnBy k rows) .circle (k .number) (graphsOf graphs k picked)
-    → graph ≡ systemBy (turnBy k rows) .graph (k .number) (graphsOf graphs k picked)
+    → circle ≡ systemBy k rows .circle (k .number) (graphsOf graphs k picked)
+    → graph ≡ systemBy k rows .graph (k .number) (graphsOf graphs k picked)
     → seenIn symbols graphs (k .symbol) graph (r .stored) ≡ known
     → eqb (r .stored) (k .room) ≡ full
-    → verdict steps circle known full graph ≡ judged (turnBy k rows) symbols graphs r picked
+    → verdict steps circle known full graph ≡ judged k rows symbols graphs r picked
 unfolding judged
 judged-by k rows symbols graphs r picked steps circle known full graph h₁ h₂ h₃ h₄ h₅ = cc
 
@@ -65,12 +65,12 @@ stores-by false false false false g h = refl
 
 module _ (k : Task) (rows symbols graphs : List ℕ) (r : Run) (picked : List ℕ) where
   -- a verdict that counts the closure: one is left
-  pub is-left : counts (judged (turnBy k rows) symbols graphs r picked) ≡ true → 1 ≤ r .left
+  pub is-left : counts (judged k rows symbols graphs r picked) ≡ true → 1 ≤ r .left
   unfolding judged
   is-left h = omega (arith, eqb-false (r .left) 0 (counts-by _ _ _ _ _ h))
 
   -- one that stores: there is room
-  pub has-room : stores (judged (turnBy k rows) symbols graphs r picked) ≡ true → r .stored ≤ k .room → r .stored < k .room
+  pub has-room : stores (judged k rows symbols graphs r picked) ≡ true → r .stored ≤ k .room → r .stored < k .room
   unfolding judged
   has-room h l = omega (arith, eqb-false (r .stored) (k .room) (stores-by _ _ _ _ _ h))
 
@@ -100,7 +100,7 @@ none-left limit left l = same-test (le-decides limit (limit - left)) (eq-decides
 full-by : (room n : ℕ) → n ≤ room → leb room n ≡ eqb n room
 full-by room n l = same-test (le-decides room n) (eq-decides n room) (λ h. omega arith) (λ h. omega arith)
 
-left-by : (k : Task) (rows : List ℕ) (p : ℕ) → systemBy (turnBy k rows) .left p ≡ k .symbol
+left-by : (k : Task) (rows : List ℕ) (p : ℕ) → systemBy k rows .left p ≡ k .symbol
 unfolding systemBy
 left-by k rows p = refl
 
@@ -112,13 +112,13 @@ module _ (k : Task) (rows : List ℕ) (σ : Slices) (r : Run) (picked : List ℕ
   combo = take (k .count) picked
 
   abbrev rule : ℕ → State → Ran
-  rule limit = try (systemBy (turnBy k rows)) limit (k .room) (k .number) combo
+  rule limit = try (systemBy k rows) limit (k .room) (k .number) combo
 
   abbrev new : ℕ → Entry
   new graph = record { symbol = k .symbol; graph = graph; production = k .number; kids = picked }
 
   abbrev now : Verdict
-  now = judged (turnBy k rows) (σ .symbols) (σ .graphs) r picked
+  now = judged k rows (σ .symbols) (σ .graphs) r picked
 
   seven-picked : length picked ≡ 7
   seven-picked = length-picked k (k .count) picked (ready .few) slots
@@ -139,13 +139,13 @@ module _ (k : Task) (rows : List ℕ) (σ : Slices) (r : Run) (picked : List ℕ
         left-by k rows (k .number),
         ← graphs-same σ (r .stored) combo picked-below,
         ← slots .slots,
-        ← seen-known σ (k .symbol) (systemBy (turnBy k rows) .graph (k .number) (graphsOf (σ .graphs) k picked)) (r .stored),
+        ← seen-known σ (k .symbol) (systemBy k rows .graph (k .number) (graphsOf (σ .graphs) k picked)) (r .stored),
         length-entries σ (r .stored),
         full-by (k .room) (r .stored) (ready .roomy .stored),
       )
-      (six-acted (eqb (r .left) 0) (systemBy (turnBy k rows) .circle (k .number) (graphsOf (σ .graphs) k picked))
-      (seenIn (σ .symbols) (σ .graphs) (k .symbol) (systemBy (turnBy k rows) .graph (k .number) (graphsOf (σ .graphs) k picked)) (r .stored))
-      (eqb (r .stored) (k .room)) (systemBy (turnBy k rows) .graph (k .number) (graphsOf (σ .graphs) k picked))
+      (six-acted (eqb (r .left) 0) (systemBy k rows .circle (k .number) (graphsOf (σ .graphs) k picked))
+      (seenIn (σ .symbols) (σ .graphs) (k .symbol) (systemBy k rows .graph (k .number) (graphsOf (σ .graphs) k picked)) (r .stored))
+      (eqb (r .stored) (k .room)) (systemBy k rows .graph (k .number) (graphsOf (σ .graphs) k picked))
       (k .number) picked (stateOf limit σ r) (counted (stateOf limit σ r)) (λ g. stored (new g) (stateOf limit σ r)))
 
   -- nothing is stored

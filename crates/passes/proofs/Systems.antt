@@ -9,7 +9,7 @@ use Rattle.passes.specs.declared.Task.{Task}
 use Rattle.rules.specs.Passes.{System, State, Ran, andThen, entry, graphs, candidates, combinations, try, tries, turn}
 use Rattle.rules.proofs.Stored.{Each, each-combination}
 use Rattle.passes.specs.Slices.{Slices}
-use Rattle.passes.specs.Follow.{entriesTo, stateOf, Follows, turnBy, systemBy, under, combosFrom}
+use Rattle.passes.specs.Follow.{entriesTo, stateOf, Follows, systemBy, under, combosFrom}
 use Rattle.passes.proofs.Following.{then-same, follows-here}
 use Rattle.passes.proofs.Levels.{over}
 
@@ -35,11 +35,11 @@ module _ (W U : System) (limit room p n : ℕ) (left : U .left p ≡ W .left p)
 
 -- a task says of its production what the system W says
 pub record Agrees (W : System) (k : Task) (rows : List ℕ) : Type 0 where
-  pub left : systemBy (turnBy k rows) .left (k .number) ≡ W .left (k .number)
+  pub left : systemBy k rows .left (k .number) ≡ W .left (k .number)
   pub rights : take (k .count) (k .rights) ≡ W .rights (k .number)
   pub long : length (W .rights (k .number)) ≡ k .count
-  pub graph : (gs : List ℕ) → length gs ≡ k .count → systemBy (turnBy k rows) .graph (k .number) gs ≡ W .graph (k .number) gs
-  pub circle : (gs : List ℕ) → length gs ≡ k .count → systemBy (turnBy k rows) .circle (k .number) gs ≡ W .circle (k .number) gs
+  pub graph : (gs : List ℕ) → length gs ≡ k .count → systemBy k rows .graph (k .number) gs ≡ W .graph (k .number) gs
+  pub circle : (gs : List ℕ) → length gs ≡ k .count → systemBy k rows .circle (k .number) gs ≡ W .circle (k .number) gs
 
 under-nothing : (cs : List (List ℕ)) → under [] cs ≡ cs
 unfolding under
@@ -70,6 +70,6 @@ module _ (W : System) (k : Task) (rows : List ℕ) (agrees : Agrees W k rows) wh
       let es = entriesTo σ (k .first) in
       follows-here (k .room) σ r (over k rows (combosFrom k es 0 picked)) (λ limit. turn W limit (k .room) (k .number)) τ q f
       (λ limit. ap (λ (cs : List (List ℕ)). over k rows cs limit (stateOf limit σ r)) (combos-all es picked)
-      ∙ tries-same W (systemBy (turnBy k rows)) limit (k .room) (k .number) (k .count) (agrees .left) (agrees .graph) (agrees .circle)
+      ∙ tries-same W (systemBy k rows) limit (k .room) (k .number) (k .count) (agrees .left) (agrees .graph) (agrees .circle)
       (all es) (each-all es) (stateOf limit σ r)
       ∙ ap (λ (n : ℕ). tries W limit (k .room) (k .number) (all (entriesTo σ n)) (stateOf limit σ r)) e)

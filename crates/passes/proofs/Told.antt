@@ -16,7 +16,7 @@ use Rattle.passes.specs.Slices.{Slices, kidsOf, Tells}
 use Rattle.passes.specs.Follow.{entryAt, entriesTo}
 use Rattle.passes.proofs.Entries.{length-entries, entry-at}
 
-length-kids : (es : List Entry) → Sevens es → length (kidsOf es) ≡ 7 * length es
+pub length-kids : (es : List Entry) → Sevens es → length (kidsOf es) ≡ 7 * length es
 unfolding kidsOf
 length-kids [] h = refl
 length-kids (e ∷ es) h = omega (arith, length-append (e .kids) (kidsOf es), h .0, length-kids es (h .1))

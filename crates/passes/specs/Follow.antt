@@ -97,22 +97,14 @@ pub record Roomy (room : ℕ) (σ : Slices) (r : Run) : Type 0 where
 abbrev pub closedOver : List ℕ → List ℕ → List ℕ
 closedOver rows gs = closure (take (8 * suc (length gs)) (placedFrom 8 1 gs rows))
 
--- a turn: its task, and the production's own rows
-pub record Turn : Type 0 where
-  pub task : Task
-  pub rows : List ℕ
-
-abbrev pub turnBy : Task → List ℕ → Turn
-turnBy k rows = record { task = k; rows = rows }
-
--- a turn as a system, the same at each production
-unfoldable pub systemBy : Turn → System
-systemBy k =
+-- a task over its production's own rows as a system, the same at each production
+unfoldable pub systemBy : Task → List ℕ → System
+systemBy k rows =
     record {
-      left = λ p. k .task .symbol;
-      rights = λ p. take (k .task .count) (k .task .rights);
-      graph = λ p gs. rootGraph 8 (closedOver (k .rows) gs);
-      circle = λ p gs. hasCircle (closedOver (k .rows) gs);
+      left = λ p. k .symbol;
+      rights = λ p. take (k .count) (k .rights);
+      graph = λ p gs. rootGraph 8 (closedOver rows gs);
+      circle = λ p gs. hasCircle (closedOver rows gs);
     }
 
 -- the turn of the production p of a table, where `first` entries are stored
@@ -185,9 +177,9 @@ verdict false false true full graph = Known
 verdict false false false true graph = Full
 verdict false false false false graph = New graph
 
-unfoldable pub judged : Turn → List ℕ → List ℕ → Run → List ℕ → Verdict
-judged t symbols graphs r picked =
-    let k = t .task in
+unfoldable pub judged : Task → List ℕ → List ℕ → List ℕ → Run → List ℕ → Verdict
+judged k rows symbols graphs r picked =
+    let W = systemBy k rows in
     let gs = graphsOf graphs k picked in
-    verdict (eqb (r .left) 0) (systemBy t .circle (k .number) gs) (seenIn symbols graphs (k .symbol) (systemBy t .graph (k .number) gs) (r .stored))
-    (eqb (r .stored) (k .room)) (systemBy t .graph (k .number) gs)
+    verdict (eqb (r .left) 0) (W .circle (k .number) gs) (seenIn symbols graphs (k .symbol) (W .graph (k .number) gs) (r .stored))
+    (eqb (r .stored) (k .room)) (W .graph (k .number) gs)

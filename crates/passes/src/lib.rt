@@ -21,7 +21,6 @@ ghost use Rattle.passes.specs.Follow.{
   Ready,
   Picked,
   PickedIn,
-  turnBy,
   systemBy,
   taskOf,
   ownOf,
@@ -95,8 +94,8 @@ fn compound(graphs: &[u64], rows: &mut [u64; 64], task: Task, picked: [u16; 7])
 // One closure.
 fn closure(graphs: &[u64], own: &[u64; 64], task: Task, picked: [u16; 7]) -> Closed
     requires { ⌜ PickedIn (now graphs) task picked ⌝ }
-    ensures { λ r. ⌜ (r .circle ≡ systemBy (turnBy task (now (own .entry))) .circle (task .number) (graphsOf (now (graphs .entry)) task picked))
-        × (r .graph ≡ systemBy (turnBy task (now (own .entry))) .graph (task .number) (graphsOf (now (graphs .entry)) task picked)) ⌝ }
+    ensures { λ r. ⌜ (r .circle ≡ systemBy task (now (own .entry)) .circle (task .number) (graphsOf (now (graphs .entry)) task picked))
+        × (r .graph ≡ systemBy task (now (own .entry)) .graph (task .number) (graphsOf (now (graphs .entry)) task picked)) ⌝ }
 {
     let occurrences = task.count + 1;
     let mut rows = *own;
@@ -135,7 +134,7 @@ fn judge(
     run: Run,
 ) -> Verdict
     requires { ⌜ (run .stored ≤ length (now symbols)) × (run .stored ≤ length (now graphs)) × PickedIn (now graphs) task picked ⌝ }
-    ensures { λ r. ⌜ r ≡ judged (turnBy task (now (own .entry))) (now (symbols .entry)) (now (graphs .entry)) run picked ⌝ }
+    ensures { λ r. ⌜ r ≡ judged task (now (own .entry)) (now (symbols .entry)) (now (graphs .entry)) run picked ⌝ }
 {
     if run.left == 0 {
         return Verdict::Steps;
@@ -199,7 +198,7 @@ fn try_one(
     run: Run,
 ) -> Run
     requires { ⌜ Ready task (slices (now symbols) (now graphs) (now productions) (now kids)) run × Picked task (task .count) picked ⌝ }
-    ensures { λ r. ⌜ Follows (task .room) (λ limit. stated.try (systemBy (turnBy task (now (own .entry)))) limit (task .room) (task .number) (take (task .count) picked))
+    ensures { λ r. ⌜ Follows (task .room) (λ limit. stated.try (systemBy task (now (own .entry))) limit (task .room) (task .number) (take (task .count) picked))
         (slices (now (symbols .entry)) (now (graphs .entry)) (now (productions .entry)) (now (kids .entry))) run
         (slices (now (symbols .exit)) (now (graphs .exit)) (now (productions .exit)) (now (kids .exit))) r ⌝ }
 {
@@ -244,7 +243,7 @@ fn level(
 ) -> Run
     requires { ⌜ (at ≤ task .count) × Ready task (slices (now symbols) (now graphs) (now productions) (now kids)) run × Picked task at picked ⌝ }
     ensures { λ r. ⌜ Follows (task .room)
-        (λ limit. stated.tries (systemBy (turnBy task (now (own .entry)))) limit (task .room) (task .number)
+        (λ limit. stated.tries (systemBy task (now (own .entry))) limit (task .room) (task .number)
         (combosFrom task (entriesTo (slices (now (symbols .entry)) (now (graphs .entry)) (now (productions .entry)) (now (kids .entry))) (task .first)) at picked))
         (slices (now (symbols .entry)) (now (graphs .entry)) (now (productions .entry)) (now (kids .entry))) run
         (slices (now (symbols .exit)) (now (graphs .exit)) (now (productions .exit)) (now (kids .exit))) r ⌝ }
@@ -315,7 +314,7 @@ fn all_occur(symbols: &[u16], task: Task) -> bool
     true
 }
 
-// The turn of the production `number`.
+// The task of a turn of the production `number`.
 fn task_of(table: &[u8], number: usize, room: usize, first: usize) -> Task
     requires { ⌜ (refusal 8 (now table) ≡ 0) × (number < P (now table)) ⌝ }
     ensures { λ r. ⌜ r ≡ taskOf (now (table .entry)) number room first ⌝ }

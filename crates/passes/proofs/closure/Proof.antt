@@ -8,7 +8,7 @@ use lib.ListN.{length, getD, take, length-map, length-take}
 use Rattle.graph.specs.Rows.{placedFrom, closedFirst, hasCircle, rootGraph}
 use Rattle.graph.proofs.Parts.{take-closed, root-closed}
 use Rattle.passes.specs.declared.Task.{Task}
-use Rattle.passes.specs.Follow.{turnBy, systemBy, graphsOf}
+use Rattle.passes.specs.Follow.{systemBy, graphsOf}
 use Rattle.passes.proofs.closure.Statement.{statement}
 use Rattle.passes.proofs.closure.Tie as tie
 
@@ -21,14 +21,14 @@ module _ (k : Task) (rows graphs picked : List ℕ) (few : k .count ≤ length p
   nodes : 8 * (k .count + 1) ≡ 8 * suc (length gs)
   nodes = omega (arith, length-map (take (k .count) picked) (λ i. getD graphs i 0), length-take (k .count) picked)
 
-  closed-circle : hasCircle (take (8 * (k .count + 1)) closed) ≡ systemBy (turnBy k rows) .circle (k .number) gs
+  closed-circle : hasCircle (take (8 * (k .count + 1)) closed) ≡ systemBy k rows .circle (k .number) gs
   unfolding systemBy
   closed-circle =
       ap (λ (l : List ℕ). hasCircle (take (8 * (k .count + 1)) l)) done
       ∙ ap hasCircle (take-closed (8 * (k .count + 1)) table)
       ∙ rw (nodes, placed)
 
-  closed-root : rootGraph 8 closed ≡ systemBy (turnBy k rows) .graph (k .number) gs
+  closed-root : rootGraph 8 closed ≡ systemBy k rows .graph (k .number) gs
   unfolding systemBy
   closed-root =
       ap (rootGraph 8) done ∙ root-closed 8 (8 * (k .count + 1)) table (omega arith) ∙ rw (nodes, placed)

@@ -7,7 +7,7 @@ use native.Mathlib.Omega.{arith}
 use Rattle.passes.specs.declared.Verdict.{Verdict}
 use Rattle.passes.specs.declared.Verdict.the-variants.{Steps, Circle, Known, Full, New}
 use Rattle.passes.specs.Slices.{Slices, slices}
-use Rattle.passes.specs.Follow.{Ready, Picked, turnBy, judged}
+use Rattle.passes.specs.Follow.{Ready, Picked, judged}
 use Rattle.passes.proofs.Six.{counts, is-left, in-symbols, in-graphs, in-productions, in-kids, follows-steps, follows-circle, follows-known, follows-full, follows-new}
 use Rattle.passes.proofs.try_one.Statement.{statement}
 use Rattle.passes.proofs.try_one.Tie as tie
@@ -25,7 +25,7 @@ module _ (c : tie.After-judge) where
   numbers : Picked (start .args .task) (start .args .task .count) (start .args .picked)
   numbers = start .pre .1
 
-  told : (v : Verdict) → c .judge .result ≡ v → judged (turnBy (start .args .task) (start .args .own .now)) (σ .symbols) (σ .graphs) (start .args .run) (start .args .picked) ≡ v
+  told : (v : Verdict) → c .judge .result ≡ v → judged (start .args .task) (start .args .own .now) (σ .symbols) (σ .graphs) (start .args .run) (start .args .picked) ≡ v
   told v h = sym (c .judge .ensures) ∙ h
 
   pays : (v : Verdict) → c .judge .result ≡ v → counts v ≡ true → 1 ≤ start .args .run .left
