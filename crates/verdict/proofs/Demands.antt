@@ -6,8 +6,7 @@ use mathlib.Core.Logic.{_⊎_, inl, inr}
 use Prim.Native.Nat.{ℕ, zero, suc, _^_, _<_}
 use native.Mathlib.Omega.{arith}
 use lib.Dec.{eqb, eqb·suc-zero}
-use lib.ListN.{length, take, length-append, length-replicate, length-take}
-use Rattle.grammar.specs.Grammar.{production, rights}
+use lib.ListN.{length}
 use Rattle.grammar.specs.Table.{grammarOf}
 use Rattle.grammar.specs.Rules.{Breaks}
 use Rattle.grammar.specs.Refusal.{refusal}
@@ -20,14 +19,13 @@ use Rattle.trees.proofs.Saturation.{none-circular}
 use Rattle.trees.proofs.Evaluators as evaluators
 use Rattle.rules.specs.declared.Answer.{Answer}
 use Rattle.rules.specs.declared.Answer.the-variants.{Noncircular, Circular, Refused, OutOfSteps, OutOfRoom}
-use Rattle.rules.specs.declared.Entry.{Entry}
-use Rattle.rules.specs.Passes.{Outcome, outcome, noRoot, empty, entry, seven, numbered, passes}
+use Rattle.rules.specs.Passes.{Outcome, outcome, noRoot, empty, numbered, passes}
 use Rattle.rules.specs.Test.{systemOf, byNumber, test}
 use Rattle.orders.specs.Answers as runs
-use Rattle.orders.specs.Stored.{In, Slots}
+use Rattle.orders.specs.Stored.{In}
 use Rattle.orders.proofs.Answers as runs-shown
 use Rattle.verdict.specs.Demands.{back, said, answer, NoRuleBroken, told, shownTree, TreePair, RefusedExactlyAlways, CircularShownAlways, NoncircularNoneAlways, StepsExactly, StepsExactlyAlways, RoomExactly, RoomExactlyAlways, RoomCounts, RoomCountsAlways, NeverStillAlways, StandsStillLeftAlways, PassesFollowed}
-use Rattle.verdict.proofs.Obeys.{rights-few, obeys}
+use Rattle.verdict.proofs.Obeys.{obeys}
 use Rattle.verdict.proofs.Trees.{earlier, again, root-complete, root-circle, root-earlier, saturated}
 use Rattle.verdict.proofs.Room.{stored-once, stored-pairs, pairs-stored, no-more, one-more}
 
@@ -58,14 +56,6 @@ some-rule w bs k (Breaks.symbol-bad a b c d) = (3, refl)
 some-rule w bs k (Breaks.production-bad a b c d e) = (4, refl)
 some-rule w bs k (Breaks.edge-bad a i b c d) = (5, refl)
 some-rule w bs k (Breaks.edge-order a i b c d e) = (6, refl)
-
-seven-slots : (bs : List ℕ) (es : List Entry) {n p : ℕ} {slots : List ℕ}
-    → Slots (systemOf 8 (grammarOf bs)) (In (byNumber (grammarOf bs))) es n p slots → length slots ≡ 7
-unfolding systemOf seven
-seven-slots bs es {n} {p} {slots} k =
-    let c = take (length (rights (production (grammarOf bs) p))) slots in
-    ap length (k .rest)
-    ∙ simp (length-append, length-replicate) (omega (arith, length-take (length (rights (production (grammarOf bs) p))) slots, rights-few bs p))
 
 module _ (bs : List ℕ) where
   abbrev ran : ℕ → ℕ → Outcome
@@ -115,25 +105,6 @@ module _ (bs : List ℕ) where
     sound limit room =
         subst (runs.Sound (systemOf 8 (grammarOf bs)) (In (byNumber (grammarOf bs))) limit room) (sym (taken good limit room))
         (runs-shown.outcome-sound (systemOf 8 (grammarOf bs)) (byNumber (grammarOf bs)) limit room)
-
-  -- the count of entries is kept, also by a refusal
-  pub counted-entries : (limit room : ℕ) → back bs limit room .report .entries ≡ length (back bs limit room .entries)
-  counted-entries limit room = go either
-    where
-      go : (refusal 8 bs ≡ 0) ⊎ ((k : ℕ) × Breaks 8 bs k)
-          → back bs limit room .report .entries ≡ length (back bs limit room .entries)
-      go (inl e) = sound e limit room .counted
-      go (inr (k, b)) =
-          let q = refused k b limit room in
-          ap (λ (o : Outcome). o .report .entries) q ∙ sym (ap (λ (o : Outcome). length (o .entries)) q)
-
-  -- each entry has seven slots
-  pub seven-kids : (limit room k : ℕ) → k < length (back bs limit room .entries) → length (entry (back bs limit room .entries) k .kids) ≡ 7
-  seven-kids limit room k l = go either
-    where
-      go : (refusal 8 bs ≡ 0) ⊎ ((k : ℕ) × Breaks 8 bs k) → length (entry (back bs limit room .entries) k .kids) ≡ 7
-      go (inl e) = seven-slots bs _ (sound e limit room .made k l .kids)
-      go (inr (j, b)) = absurd (omega (arith, ap (λ (o : Outcome). length (o .entries)) (refused j b limit room)))
 
 -- ---- demand 1
 pub refused-exactly : RefusedExactlyAlways back

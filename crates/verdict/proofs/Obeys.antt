@@ -1,19 +1,18 @@
 -- A table that is not refused is a grammar as the trees ask for it. Assumes nothing.
-use mathlib.Core.Path.{_≡_, refl, sym, ap, _∙_}
+use mathlib.Core.Path.{_≡_, sym, ap, _∙_}
 use mathlib.Core.List.{List, List·Memᴰ, Memᴰ·of-map}
-use Prim.Native.Nat.{ℕ, _+_, _*_, _≤_}
+use Prim.Native.Nat.{ℕ, _+_, _*_}
 use native.Mathlib.Omega.{arith}
-use lib.ListN.{length, length-map, length-take}
+use lib.ListN.{length, length-map}
 use Rattle.numbers.specs.Number.{le2}
 use Rattle.numbers.specs.Lists.{upFrom}
 use Rattle.numbers.proofs.Ranges.{length-upFrom}
 use Rattle.grammar.specs.declared.Production.{Production}
-use Rattle.grammar.specs.Grammar.{noProduction, production, rights}
+use Rattle.grammar.specs.Grammar.{production}
 use Rattle.grammar.specs.Table.{P, atProductions, productionIn, grammarOf}
 use Rattle.grammar.specs.Refusal.{refusal}
 use Rattle.grammar.proofs.Valid.{valid}
 use Rattle.trees.specs.Tree.{Valid, AtMost}
-use Rattle.trees.proofs.Lists.{getD-each}
 
 -- a production of a table has seven slots
 seven-slots : (bs : List ℕ) (i : ℕ) → length (productionIn bs i .slots) ≡ 7
@@ -25,13 +24,6 @@ unfolding grammarOf
 slots-there bs p m =
     let r = Memᴰ·of-map (λ i. productionIn bs (atProductions bs + 18 * i)) (upFrom 0 (P bs)) m in
     ap (λ (q : Production). length (q .slots)) (sym (r .2)) ∙ seven-slots bs (atProductions bs + 18 * r .0)
-
--- so no production has more than seven right symbols
-pub rights-few : (bs : List ℕ) (p : ℕ) → length (rights (production (grammarOf bs) p)) ≤ 7
-rights-few bs p =
-    let g = grammarOf bs in
-    let s = getD-each (λ (q : Production). length (q .slots) ≡ 7) (g .productions) noProduction refl (slots-there bs) p in
-    omega (arith, length-take (production g p .n) (production g p .slots), s)
 
 pub obeys : (w : ℕ) (bs : List ℕ) → refusal w bs ≡ 0 → Valid (grammarOf bs) × AtMost w (grammarOf bs)
 obeys w bs e =

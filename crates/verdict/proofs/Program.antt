@@ -1,47 +1,24 @@
 -- The promise of the test carries the demands: nothing is left between the program's result and them. Assumes nothing.
 use mathlib.Core.Path.{_≡_, refl, sym, ap, _∙_, subst}
-use mathlib.Core.List.{List, [], _∷_, _++_, map, append-assoc}
-use Prim.Native.Nat.{ℕ, zero, suc, _+_, _*_, _<_}
+use mathlib.Core.List.{List, [], map}
+use Prim.Native.Nat.{ℕ, _*_, _<_}
 use native.Mathlib.Omega.{arith}
-use lib.ListN.{length, take, drop, length-append, length-map}
-use lib.Seq.{ext-getD, take-at, drop-at, drop-append-add}
+use lib.ListN.{length, take, drop, length-map}
+use lib.Seq.{take-at, drop-at}
 use Rattle.numbers.specs.Lists.{written}
 use Rattle.rules.specs.declared.Report.{Report}
 use Rattle.rules.specs.declared.Entry.{Entry}
-use Rattle.rules.specs.Passes.{Outcome, noEntry, entry}
+use Rattle.rules.specs.Passes.{Outcome, entry}
 use Rattle.passes.specs.Slices.{Slices, slices, roomOf, kidsOf, Tested}
 use Rattle.passes.specs.Follow.{entryAt, entriesTo}
-use Rattle.passes.proofs.Entries.{length-entries, entry-at}
+use Rattle.rules.proofs.Stored.{Counted, counted-test}
+use Rattle.passes.proofs.Entries.{entry-at}
+use Rattle.passes.proofs.Told.{length-kids, entries-told}
 use Rattle.verdict.specs.Demands.{back}
 use Rattle.verdict.specs.Program.{readOut, Stands, RestBefore, Demanded, ProgramAlways, RowAlways}
-use Rattle.verdict.proofs.Demands.{refused-exactly, circular-shown, noncircular-none, steps-exactly, room-exactly, room-counts, never-still, stands-still, counted-entries, seven-kids}
+use Rattle.verdict.proofs.Demands.{refused-exactly, circular-shown, noncircular-none, steps-exactly, room-exactly, room-counts, never-still, stands-still}
 
 -- ---- read off the slices
-
--- each entry has seven slots
-abbrev Sevens : List Entry → Type 0
-Sevens es = (k : ℕ) → k < length es → length (entry es k .kids) ≡ 7
-
-length-kids : (es : List Entry) → Sevens es → length (kidsOf es) ≡ 7 * length es
-unfolding kidsOf
-length-kids [] h = refl
-length-kids (e ∷ es) h =
-    omega (arith, length-append (e .kids) (kidsOf es), h 0 (omega arith), length-kids es (λ k l. h (suc k) (omega arith)))
-
-module _ (a b c d : List ℕ) where
-  entry-told : (es : List Entry) (i : ℕ) → Sevens es → i < length es
-      → entryAt (slices (map (λ e. e .symbol) es ++ a) (map (λ e. e .graph) es ++ b) (map (λ e. e .production) es ++ c) (kidsOf es ++ d)) i
-      ≡ entry es i
-  unfolding entryAt kidsOf
-  entry-told [] i h l = absurd (omega arith)
-  entry-told (e ∷ es) zero h l =
-      let first : take 7 (drop (7 * 0) (e .kids ++ kidsOf es ++ d)) ≡ e .kids =
-      rw append-assoc (take-at (e .kids) (kidsOf es ++ d) 7 (h 0 (omega arith))) in
-      ap (λ (k : List ℕ). record { symbol = e .symbol; graph = e .graph; production = e .production; kids = k }) first
-  entry-told (e ∷ es) (suc i) h l =
-      let size : 7 * suc i ≡ length (e .kids) + 7 * i = omega (arith, h 0 (omega arith)) in
-      let past : drop (7 * suc i) (e .kids ++ kidsOf es ++ d) ≡ drop (7 * i) (kidsOf es ++ d) = rw (append-assoc, size, drop-append-add) in
-      rw past (entry-told es i (λ k m. h (suc k) (omega arith)) (omega arith))
 
 -- behind what is written all is as before
 behind : (new old now : List ℕ) (n : ℕ) → now ≡ written new old → length new ≡ n → drop n now ≡ drop n old
@@ -54,13 +31,17 @@ module _ (bs : List ℕ) (limit : ℕ) (σ : Slices) (r : Report) (τ : Slices) 
   abbrev es : List Entry
   es = back bs limit R .entries
 
+  sound : Counted (roomOf σ) (back bs limit (roomOf σ))
+  sound = counted-test 8 bs limit R
+
   count : length (back bs limit (roomOf σ) .entries) ≡ r .entries
-  count = sym (ap (λ (x : Report). x .entries) (promised .report) ∙ counted-entries bs limit R)
+  count = sym (ap (λ (x : Report). x .entries) (promised .report) ∙ sound .count)
+
+  told : entriesTo τ (length (back bs limit (roomOf σ) .entries)) ≡ back bs limit (roomOf σ) .entries
+  told = entries-told (back bs limit R) σ r τ (sound .sound .slots) promised
 
   at-slices : (k : ℕ) → k < length (back bs limit (roomOf σ) .entries) → entryAt τ k ≡ entry (back bs limit (roomOf σ) .entries) k
-  at-slices k l =
-      (λ j. entryAt (slices (promised .symbols j) (promised .graphs j) (promised .productions j) (promised .kids j)) k)
-      ∙ entry-told _ _ _ _ es k (seven-kids bs limit R) l
+  at-slices k l = sym (entry-at τ (length es) k l) ∙ ap (λ (xs : List Entry). entry xs k) told
 
   stands : (k : ℕ) → k < r .entries → Stands bs limit σ τ k
   unfolding entryAt
@@ -86,16 +67,12 @@ module _ (bs : List ℕ) (limit : ℕ) (σ : Slices) (r : Report) (τ : Slices) 
         (length-map es (λ e. e .production) ∙ count);
     kids =
         behind (kidsOf es) (σ .kids) (τ .kids) (7 * r .entries) (promised .kids)
-        (length-kids es (seven-kids bs limit R) ∙ ap (λ (n : ℕ). 7 * n) count);
+        (length-kids es (sound .sound .slots) ∙ ap (λ (n : ℕ). 7 * n) count);
   }
 
   whole : readOut r τ ≡ back bs limit (roomOf σ)
   whole =
-      let n = r .entries in
-      let same : entriesTo τ (r .entries) ≡ back bs limit (roomOf σ) .entries =
-      ext-getD noEntry (entriesTo τ n) es (length-entries τ n ∙ sym count)
-      (λ i l. let m : i < n = rw (length-entries τ n) at l in
-      entry-at τ n i m ∙ at-slices i (omega (arith, count))) in
+      let same : entriesTo τ (r .entries) ≡ back bs limit (roomOf σ) .entries = ap (entriesTo τ) (sym count) ∙ told in
       λ j. record { report = promised .report j; entries = same j }
 
   untouched : (outcome : Outcome) → back bs limit (roomOf σ) ≡ outcome → outcome .entries ≡ [] → τ ≡ σ
@@ -137,7 +114,7 @@ program bs limit σ r τ promised =
 pub program-of-records : RowAlways
 program-of-records bs limit R r before after report row =
     let es = back bs limit R .entries in
-    let n : length es ≡ r .entries = sym (ap (λ (x : Report). x .entries) report ∙ counted-entries bs limit R) in
+    let n : length es ≡ r .entries = sym (ap (λ (x : Report). x .entries) report ∙ counted-test 8 bs limit R .count) in
     let front : take (r .entries) after ≡ back bs limit R .entries =
     ap (take (r .entries)) row ∙ take-at es (drop (length es) before) (r .entries) n in
     demanded bs limit R _ (λ j. record { report = report j; entries = front j })
