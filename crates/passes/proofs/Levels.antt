@@ -80,13 +80,14 @@ module _ (k : Task) (rows : List ℕ) (σ₀ : Slices) (r₀ : Run) (ready : Rea
 
     -- an entry of the right symbol: the levels below follow it
     pub level-hit : e < k .first → n < length picked → getD (σ .symbols) e 0 ≡ getD (k .rights) n 0
-        → (next : List ℕ) (τ : Slices) (q : Run) → next ≡ set picked n e
-        → Follows (k .room) (over k rows (combosFrom k (entriesTo σ (k .first)) (n + 1) next)) σ r τ q
+        → (i : ℕ) (next : List ℕ) (τ : Slices) (q : Run) → i ≡ n + 1 → next ≡ set picked n e
+        → Follows (k .room) (over k rows (combosFrom k (entriesTo σ (k .first)) i next)) σ r τ q
         → Passed k rows σ₀ r₀ n picked (e + 1) τ q
-    level-hit l m here next τ q h g =
+    level-hit l m here i next τ q one h g =
         more τ q
         (subst (λ (cs : List (List ℕ)). Follows (k .room) (over k rows cs) σ r τ q)
-        (ap₂ (λ (es : List Entry) (p : List ℕ). combosFrom k es (n + 1) p) begun-same h
+        (ap (λ (j : ℕ). combosFrom k (entriesTo σ (k .first)) j next) one
+        ∙ ap₂ (λ (es : List Entry) (p : List ℕ). combosFrom k es (n + 1) p) begun-same h
         ∙ combos-next k begun n picked e m
         ∙ sym (between-hit begun _ _ _ e (sym (symbol-same l) ∙ here)))
         g)
@@ -114,9 +115,9 @@ module _ (k : Task) (rows : List ℕ) (σ₀ : Slices) (r₀ : Run) (ready : Rea
 
 -- ---- one more number is picked
 
-pub picked-none : (k : Task) → Picked k 0 (replicate 7 0)
+pub picked-none : (k : Task) (n : ℕ) → n ≡ 0 → Picked k n (replicate 7 0)
 unfolding seven
-picked-none k = record { slots = refl; below = λ i l. absurd (omega arith) }
+picked-none k n none = rw none (record { slots = refl; below = λ i l. absurd (omega arith) })
 
 seven-set : (a : List ℕ) (e : ℕ) → length a < 7 → set (seven a) (length a) e ≡ seven (a ++ (e ∷ []))
 unfolding seven
@@ -148,5 +149,5 @@ module _ (k : Task) (n : ℕ) (picked : List ℕ) (e : ℕ) (few : n < 7) (slots
       (λ q. rw (getD-set-other picked n i e 0 (omega (arith, q))) (slots .below i (omega (arith, q))))
       (eq-or-lt-of-le h)
 
-  pub picked-more : e < k .first → Picked k (n + 1) (set picked n e)
-  picked-more l = record { slots = set-slots; below = set-below l }
+  pub picked-more : e < k .first → (i : ℕ) (next : List ℕ) → i ≡ n + 1 → next ≡ set picked n e → Picked k i next
+  picked-more l i next one h = rw (one, h) (record { slots = set-slots; below = set-below l })

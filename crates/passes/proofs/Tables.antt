@@ -106,11 +106,12 @@ module _ (bs : List ℕ) (good : refusal 8 bs ≡ 0) where
         })
 
     -- where all its combinations are followed, the turn is
-    pub task-turn : (rows : List ℕ) → rows ≡ ownOf bs p → (picked : List ℕ) (τ : Slices) (q : Run)
-        → Follows (k .room) (over k rows (combosFrom k (entriesTo σ (k .first)) 0 picked)) σ r τ q
+    pub task-turn : (rows : List ℕ) → rows ≡ ownOf bs p → (n : ℕ) → n ≡ 0 → (picked : List ℕ) (τ : Slices) (q : Run)
+        → Follows (k .room) (over k rows (combosFrom k (entriesTo σ (k .first)) n picked)) σ r τ q
         → Follows room (λ limit. turn (systemOf 8 g) limit room p) σ r τ q
     unfolding taskOf
-    task-turn rows own picked τ q f =
+    task-turn rows own n none picked τ q f =
         turn-follows (systemOf 8 g) (taskOf bs p room (r .stored)) (ownOf bs p) (agrees p there room (r .stored)) σ r picked τ q refl
         (subst (λ (l : List ℕ). Follows room (over (taskOf bs p room (r .stored)) l (combosFrom (taskOf bs p room (r .stored)) (entriesTo σ (r .stored)) 0 picked)) σ r τ q) own
-        (subst (λ (t : Task). Follows (t .room) (over t rows (combosFrom t (entriesTo σ (t .first)) 0 picked)) σ r τ q) made f))
+        (subst (λ (t : Task). Follows (t .room) (over t rows (combosFrom t (entriesTo σ (t .first)) 0 picked)) σ r τ q) made
+        (subst (λ (i : ℕ). Follows (k .room) (over k rows (combosFrom k (entriesTo σ (k .first)) i picked)) σ r τ q) none f)))

@@ -1,7 +1,7 @@
 // The circularity test: the passes over four parallel lent slices of numbers.
 ghost use mathlib.Core.Path.{_≡_};
 ghost use mathlib.Core.Bool.{true};
-ghost use Prim.Native.Nat.{_+_, _/_, _≤_, _<_, min};
+ghost use Prim.Native.Nat.{_+_, _-_, _/_, _≤_, _<_, min};
 ghost use lib.ListN.{length, set, take};
 ghost use lib.Seq.{sets};
 ghost use Rattle.numbers.specs.Lists.{upFrom};
@@ -229,7 +229,7 @@ fn put(picked: [u16; 7], at: usize, entry: u16) -> [u16; 7]
     next
 }
 
-// The combinations that begin as `picked` does before the right symbol `at`.
+// The combinations that begin as `picked` does, with `left` right symbols still to be picked for.
 fn level(
     symbols: &mut [u16],
     graphs: &mut [u64],
@@ -237,20 +237,22 @@ fn level(
     kids: &mut [u16],
     own: &[u64; 64],
     task: Task,
-    at: usize,
+    left: usize,
     picked: [u16; 7],
     run: Run,
 ) -> Run
-    requires { ⌜ (at ≤ task .count) × Ready task (slices (now symbols) (now graphs) (now productions) (now kids)) run × Picked task at picked ⌝ }
+    requires { ⌜ (left ≤ task .count) × Ready task (slices (now symbols) (now graphs) (now productions) (now kids)) run × Picked task (task .count - left) picked ⌝ }
     ensures { λ r. ⌜ Follows (task .room)
         (λ limit. stated.tries (systemBy task (now (own .entry))) limit (task .room) (task .number)
-        (combosFrom task (entriesTo (slices (now (symbols .entry)) (now (graphs .entry)) (now (productions .entry)) (now (kids .entry))) (task .first)) at picked))
+        (combosFrom task (entriesTo (slices (now (symbols .entry)) (now (graphs .entry)) (now (productions .entry)) (now (kids .entry))) (task .first)) (task .count - left) picked))
         (slices (now (symbols .entry)) (now (graphs .entry)) (now (productions .entry)) (now (kids .entry))) run
         (slices (now (symbols .exit)) (now (graphs .exit)) (now (productions .exit)) (now (kids .exit))) r ⌝ }
 {
-    if at == task.count {
+    if left == 0 {
         return try_one(symbols, graphs, productions, kids, own, task, picked, run);
     }
+    let count = task.count;
+    let at = count - left;
     let rights = task.rights;
     let right = rights[at];
     let first = task.first;
@@ -272,7 +274,7 @@ fn level(
                 kids,
                 own,
                 task,
-                at + 1,
+                left - 1,
                 next,
                 now,
             );
@@ -369,7 +371,7 @@ fn turn(
         kids,
         &own,
         task,
-        0,
+        task.count,
         [0u16; 7],
         run,
     )

@@ -1,7 +1,6 @@
 -- The proof of the cycle of calls {level}. The measure is how many right symbols are left.
 -- The loop's invariant: the slices and the run follow the combinations of the entries passed. Assumes nothing.
-use mathlib.Core.Path.{sym, subst}
-use mathlib.Core.List.{List}
+use mathlib.Core.Path.{_≡_, subst}
 use Prim.Native.Nat.{ℕ, _<_, _≤_, _+_, _-_}
 use borrow.Author.Needs.{needs}
 use borrow.Author.Tests.{not-true, not-false}
@@ -23,7 +22,7 @@ use Rattle.passes.proofs.+level.{statement}
 use Rattle.passes.proofs.+level.Tie.{close}
 
 abbrev μ-level : Measures 5 level-kinds.ps ℕ
-μ-level κs a = a .1 .1 .1 .1 .1 .0 .count - a .1 .1 .1 .1 .1 .1 .0
+μ-level κs a = a .1 .1 .1 .1 .1 .1 .0
 
 abbrev level-at : ℕ → In 5 level-kinds.ps
 level-at t = and 5 level-kinds.ps (is 5 level-kinds.ps μ-level t) level.Pre
@@ -36,17 +35,21 @@ abbrev K : ℕ → level-lts.Claims
 K t = (try-one-reads.Asked, try-one-reads.Learnt, put-reads.Asked, put-reads.Learnt, level-below t, level.Post)
 
 abbrev level-Inv-loop : level-lts.InvT-loop
-level-Inv-loop symbols₀ graphs₀ productions₀ kids₀ own task at picked right first now₀ e₀ symbols graphs productions kids now e =
+level-Inv-loop symbols₀ graphs₀ productions₀ kids₀ own task left picked count at right first now₀ e₀ symbols graphs productions kids now e =
     (e ≤ first)
     × Passed task own (slices symbols₀ graphs₀ productions₀ kids₀) now₀ at picked e (slices symbols graphs productions kids) now
 
 abbrev level-μ-loop : level-lts.MeasureT-loop
-level-μ-loop symbols₀ graphs₀ productions₀ kids₀ own task at picked right first now₀ e₀ symbols graphs productions kids now e =
+level-μ-loop symbols₀ graphs₀ productions₀ kids₀ own task left picked count at right first now₀ e₀ symbols graphs productions kids now e =
     first - e
 
 module _ (t : ℕ) (c : level-lts.At-loop (K t) (level-at t) level.Post level-Inv-loop level-μ-loop) where
   abbrev start : level-lts.Start (K t) (level-at t) level.Post level-Inv-loop level-μ-loop
-  start = c .before .before .before .before .before .before .before .before
+  start = c .before .before .before .before .before .before .before
+
+  -- the right symbol for which an entry is picked here
+  abbrev at : ℕ
+  at = start .args .task .count - start .args .left
 
   abbrev σ₀ : Slices
   σ₀ = slices (start .args .symbols .now) (start .args .graphs .now) (start .args .productions .now) (start .args .kids .now)
@@ -57,7 +60,7 @@ module _ (t : ℕ) (c : level-lts.At-loop (K t) (level-at t) level.Post level-In
   ready : Ready (start .args .task) σ₀ (start .args .run)
   ready = start .pre .1 .1
 
-  numbers : Picked (start .args .task) (start .args .at) (start .args .picked)
+  numbers : Picked (start .args .task) at (start .args .picked)
   numbers = start .pre .1 .2
 
   kept : Kept (start .args .task .room) σ₀ (start .args .run) σ (c .loop .now)
@@ -66,22 +69,26 @@ module _ (t : ℕ) (c : level-lts.At-loop (K t) (level-at t) level.Post level-In
   roomy : Roomy (start .args .task .room) σ (c .loop .now)
   roomy = kept-roomy (start .args .task .room) σ₀ (start .args .run) σ (c .loop .now) kept (ready .roomy)
 
-  lower : start .args .at < start .args .task .count
+  lower : at < start .args .task .count
   lower = omega (arith, c .before .before .if1 .left, start .pre .1 .0)
+
+  -- with one right symbol less to pick for, one more is picked for
+  one-more : start .args .task .count - (start .args .left - 1) ≡ at + 1
+  one-more = omega (arith, c .before .before .if1 .left, start .pre .1 .0)
 
   long : start .args .task .count ≤ length (start .args .task .rights)
   long = omega (arith, ready .few, ready .slots)
 
-  in-picked : start .args .at < length (start .args .picked)
+  in-picked : at < length (start .args .picked)
   in-picked =
-      let few : start .args .at < 7 = omega (arith, lower, ready .few) in
-      omega (arith, few, length-picked (start .args .task) (start .args .at) (start .args .picked) (omega (arith, few)) numbers)
+      let few : at < 7 = omega (arith, lower, ready .few) in
+      omega (arith, few, length-picked (start .args .task) at (start .args .picked) (omega (arith, few)) numbers)
 
 level-try-one-requires : (t : ℕ) → level-lts.Need-try-one-requires (K t) (level-at t) level.Post level-Inv-loop level-μ-loop
 level-try-one-requires t c κs =
-    let p = c .before .before .before .before .before .before .before .before .before .before .pre in
-    let q = c .before .before .before .before .if1 .taken in
-    (p .1 .1, subst (λ (n : ℕ). Picked (c .before .before .before .before .before .before .before .before .before .before .args .task) n (c .before .before .before .before .before .before .before .before .before .before .args .picked)) q (p .1 .2))
+    let s = c .before .before .before .before .before .before .before .before .before in
+    let none : s .args .task .count - s .args .left ≡ s .args .task .count = omega (arith, c .before .before .before .before .if1 .taken) in
+    (s .pre .1 .1, subst (λ (n : ℕ). Picked (s .args .task) n (s .args .picked)) none (s .pre .1 .2))
 
 level-same-length : (t : ℕ) → level-lts.Need-same-length (K t) (level-at t) level.Post level-Inv-loop level-μ-loop
 level-same-length t c = search needs
@@ -97,8 +104,12 @@ level-same-length-4 t c = search needs
 
 level-returns : (t : ℕ) → level-lts.Need-returns (K t) (level-at t) level.Post level-Inv-loop level-μ-loop
 level-returns t c =
-    let a = c .before .before .before .before .before .before .before .before .before .before .before .before .before .before .before .before .before .before .before .args in
-    level-leaf (a .task) (a .own .now) _ _ (a .run) (a .at) (a .picked) _ _ (c .before .before .before .before .before .before .before .before .before .before .before .before .before .if1 .taken) (c .before .before .before .before .before .before .before .before .try-one .ensures)
+    let a = c .before .before .before .before .before .before .before .before .before .before .before .before .before .before .before .before .before .before .args in
+    let none : a .task .count - a .left ≡ a .task .count = omega (arith, c .before .before .before .before .before .before .before .before .before .before .before .before .before .if1 .taken) in
+    level-leaf (a .task) (a .own .now) _ _ (a .run) (a .task .count - a .left) (a .picked) _ _ none (c .before .before .before .before .before .before .before .before .try-one .ensures)
+
+level-sub-at : (t : ℕ) → level-lts.Need-sub-at (K t) (level-at t) level.Post level-Inv-loop level-μ-loop
+level-sub-at t c = search needs
 
 level-mul-right : (t : ℕ) → level-lts.Need-mul-right (K t) (level-at t) level.Post level-Inv-loop level-μ-loop
 level-mul-right t c = search needs
@@ -108,8 +119,8 @@ level-array-read-right t c = search needs
 
 level-loop-holds : (t : ℕ) → level-lts.Need-loop-holds (K t) (level-at t) level.Post level-Inv-loop level-μ-loop
 level-loop-holds t c =
-    let s = c .before .before .before .before .before .before .before in
-    (search needs, level-start (s .args .task) (s .args .own .now) _ (s .args .run) (s .pre .1 .1) (s .args .at) (s .args .picked))
+    let s = c .before .before .before .before .before .before in
+    (search needs, level-start (s .args .task) (s .args .own .now) _ (s .args .run) (s .pre .1 .1) (s .args .task .count - s .args .left) (s .args .picked))
 
 level-same-length-5 : (t : ℕ) → level-lts.Need-same-length-5 (K t) (level-at t) level.Post level-Inv-loop level-μ-loop
 level-same-length-5 t c = kept t (c .before .before .before) .symbols .long
@@ -126,7 +137,7 @@ level-same-length-8 t c = kept t (c .before .before .before) .kids .long
 level-returns-2 : (t : ℕ) → level-lts.Need-returns-2 (K t) (level-at t) level.Post level-Inv-loop level-μ-loop
 level-returns-2 t c =
     let l = c .before .before .before in
-    level-stop (start t l .args .task) (start t l .args .own .now) (σ₀ t l) (start t l .args .run) (ready t l) (start t l .args .at) (start t l .args .picked) (σ t l) (l .loop .now) (l .loop .e) (l .loop .inv .1) (lower t l) (long t l) (l .loop .inv .0) (not-true _ (c .if2 .taken))
+    level-stop (start t l .args .task) (start t l .args .own .now) (σ₀ t l) (start t l .args .run) (ready t l) (at t l) (start t l .args .picked) (σ t l) (l .loop .now) (l .loop .e) (l .loop .inv .1) (lower t l) (long t l) (l .loop .inv .0) (not-true _ (c .if2 .taken))
 
 level-mul-symbol : (t : ℕ) → level-lts.Need-mul-symbol (K t) (level-at t) level.Post level-Inv-loop level-μ-loop
 level-mul-symbol t c =
@@ -151,8 +162,8 @@ level-cast-put t c =
 level-put-requires : (t : ℕ) → level-lts.Need-put-requires (K t) (level-at t) level.Post level-Inv-loop level-μ-loop
 level-put-requires t c κs = search needs
 
-level-add-level : (t : ℕ) → level-lts.Need-add-level (K t) (level-at t) level.Post level-Inv-loop level-μ-loop
-level-add-level t c = search needs
+level-sub-level : (t : ℕ) → level-lts.Need-sub-level (K t) (level-at t) level.Post level-Inv-loop level-μ-loop
+level-sub-level t c = search needs
 
 level-level-requires : (t : ℕ) → level-lts.Need-level-requires (K t) (level-at t) level.Post level-Inv-loop level-μ-loop
 level-level-requires t c κs =
@@ -163,8 +174,7 @@ level-level-requires t c κs =
       (
         omega (arith, lower t l),
         kept-ready k (σ₀ t l) (start t l .args .run) (σ t l) (l .loop .now) (ready t l) (kept t l) (not-false _ (c .before .before .before .before .before .before .before .if2 .left)),
-        subst (λ (p : List ℕ). Picked k (start t l .args .at + 1) p) (sym (next .ensures))
-            (picked-more k (start t l .args .at) (start t l .args .picked) (l .loop .e) (omega (arith, lower t l, ready t l .few)) (numbers t l) (c .before .before .before .before .before .before .before .before .before .loop-test .taken)),
+        picked-more k (at t l) (start t l .args .picked) (l .loop .e) (omega (arith, lower t l, ready t l .few)) (numbers t l) (c .before .before .before .before .before .before .before .before .before .loop-test .taken) _ _ (one-more t l) (next .ensures),
       ),
     )
 
@@ -177,7 +187,7 @@ level-loop-again : (t : ℕ) → level-lts.Need-loop-again (K t) (level-at t) le
 level-loop-again t c =
     let l = c .before .before .before .before .before .before .before .before .before .before .before .before .before .before .before .before .before .before .before in (
       omega (arith, c .before .before .before .before .before .before .before .before .before .before .before .before .before .before .before .before .before .before .loop-test .taken),
-      level-hit (start t l .args .task) (start t l .args .own .now) (σ₀ t l) (start t l .args .run) (ready t l) (start t l .args .at) (start t l .args .picked) (σ t l) (l .loop .now) (l .loop .e) (l .loop .inv .1) (c .before .before .before .before .before .before .before .before .before .before .before .before .before .before .before .before .before .before .loop-test .taken) (in-picked t l) (c .before .before .before .before .before .before .before .before .before .before .before .before .before .before .if3 .taken) (c .before .before .before .before .before .before .before .before .before .before .before .before .before .put .result) _ _ (c .before .before .before .before .before .before .before .before .before .before .before .before .before .put .ensures) (c .before .before .before .before .before .before .before .before .level .ensures),
+      level-hit (start t l .args .task) (start t l .args .own .now) (σ₀ t l) (start t l .args .run) (ready t l) (at t l) (start t l .args .picked) (σ t l) (l .loop .now) (l .loop .e) (l .loop .inv .1) (c .before .before .before .before .before .before .before .before .before .before .before .before .before .before .before .before .before .before .loop-test .taken) (in-picked t l) (c .before .before .before .before .before .before .before .before .before .before .before .before .before .before .if3 .taken) _ (c .before .before .before .before .before .before .before .before .before .before .before .before .before .put .result) _ _ (one-more t l) (c .before .before .before .before .before .before .before .before .before .before .before .before .before .put .ensures) (c .before .before .before .before .before .before .before .before .level .ensures),
     )
 
 level-loop-less-2 : (t : ℕ) → level-lts.Need-loop-less-2 (K t) (level-at t) level.Post level-Inv-loop level-μ-loop
@@ -189,7 +199,7 @@ level-loop-again-2 : (t : ℕ) → level-lts.Need-loop-again-2 (K t) (level-at t
 level-loop-again-2 t c =
     let l = c .before .before .before .before .before in (
       omega (arith, c .before .before .before .before .loop-test .taken),
-      level-other (start t l .args .task) (start t l .args .own .now) (σ₀ t l) (start t l .args .run) (ready t l) (start t l .args .at) (start t l .args .picked) (σ t l) (l .loop .now) (l .loop .e) (l .loop .inv .1) (c .before .before .before .before .loop-test .taken) (c .if3 .left),
+      level-other (start t l .args .task) (start t l .args .own .now) (σ₀ t l) (start t l .args .run) (ready t l) (at t l) (start t l .args .picked) (σ t l) (l .loop .now) (l .loop .e) (l .loop .inv .1) (c .before .before .before .before .loop-test .taken) (c .if3 .left),
     )
 
 level-same-length-9 : (t : ℕ) → level-lts.Need-same-length-9 (K t) (level-at t) level.Post level-Inv-loop level-μ-loop
@@ -207,7 +217,7 @@ level-same-length-12 t c = kept t (c .before) .kids .long
 level-returns-3 : (t : ℕ) → level-lts.Need-returns-3 (K t) (level-at t) level.Post level-Inv-loop level-μ-loop
 level-returns-3 t c =
     let l = c .before in
-    level-end (start t l .args .task) (start t l .args .own .now) (σ₀ t l) (start t l .args .run) (ready t l) (start t l .args .at) (start t l .args .picked) (σ t l) (l .loop .now) (l .loop .e) (l .loop .inv .1) (lower t l) (long t l) (omega (arith, l .loop .inv .0, c .loop-test .left))
+    level-end (start t l .args .task) (start t l .args .own .now) (σ₀ t l) (start t l .args .run) (ready t l) (at t l) (start t l .args .picked) (σ t l) (l .loop .now) (l .loop .e) (l .loop .inv .1) (lower t l) (long t l) (omega (arith, l .loop .inv .0, c .loop-test .left))
 
 pub +level-spec : {M : Type 1} → statement M
 +level-spec = close μ-level λ t. level-lts.spec (K t)
@@ -221,6 +231,7 @@ pub +level-spec : {M : Type 1} → statement M
     (level-same-length-3 t)
     (level-same-length-4 t)
     (level-returns t)
+    (level-sub-at t)
     (level-mul-right t)
     (level-array-read-right t)
     (level-loop-holds t)
@@ -234,7 +245,7 @@ pub +level-spec : {M : Type 1} → statement M
     (level-add-e t)
     (level-cast-put t)
     (level-put-requires t)
-    (level-add-level t)
+    (level-sub-level t)
     (level-level-requires t)
     (level-loop-less t)
     (level-loop-again t)

@@ -42,7 +42,7 @@ returns c =
     let t = c .before .before .before in
     let s = start t in
     let k = t .task-of .result in
-    task-turn (s .args .table .now) (s .pre .0) (s .args .number) (s .args .room) (s .pre .1) (σ t) (s .args .run) k (t .task-of .ensures) (ownOf (s .args .table .now) (s .args .number)) refl (replicate 7 0) _ _
+    task-turn (s .args .table .now) (s .pre .0) (s .args .number) (s .args .room) (s .pre .1) (σ t) (s .args .run) k (t .task-of .ensures) (ownOf (s .args .table .now) (s .args .number)) refl 0 refl (replicate 7 0) _ _
     (over-none k (ownOf (s .args .table .now) (s .args .number)) (σ t) (s .args .run) _
     (combos-none k (σ t) (replicate 7 0) (omega (arith, ready t .few, ready t .slots)) (sym (c .before .all-occur .ensures) ∙ not-true _ (c .if1 .taken)))
     (ready t .roomy .stored))
@@ -55,7 +55,7 @@ own-of-requires c κs =
 level-requires : tie.Need-level-requires
 level-requires c κs =
     let t = c .before .before .before .before .before .before .before .before .before in
-    (search needs, ready t, picked-none (t .task-of .result))
+    (search needs, ready t, picked-none (t .task-of .result) _ (omega arith))
 
 same-length-2 : tie.Need-same-length-2
 same-length-2 c = search needs
@@ -74,7 +74,7 @@ returns-2 c =
     let t = c .before .before .before .before .before .before .before .before .before .before .before .before .before .before .before .before .before .before in
     let s = start t in
     let own = c .before .before .before .before .before .before .before .before .before .before .before .before .before .before .own-of in
-    task-turn (s .args .table .now) (s .pre .0) (s .args .number) (s .args .room) (s .pre .1) (σ t) (s .args .run) (t .task-of .result) (t .task-of .ensures) (own .result) (own .ensures) (replicate 7 0) _ _
+    task-turn (s .args .table .now) (s .pre .0) (s .args .number) (s .args .room) (s .pre .1) (σ t) (s .args .run) (t .task-of .result) (t .task-of .ensures) (own .result) (own .ensures) _ (omega arith) (replicate 7 0) _ _
     (c .before .before .before .before .before .before .before .before .level .ensures)
 
 pub turn-spec : {M : Type 1} → statement M
