@@ -13,7 +13,7 @@ use Rattle.numbers.specs.Lists.{both, upFrom, keep}
 use Rattle.numbers.proofs.Keeping.{up-more, keep-append}
 use Rattle.numbers.proofs.Members.{at-map}
 use Rattle.rules.specs.declared.Entry.{Entry}
-use Rattle.passes.specs.declared.Task.{Task}
+use Rattle.steps.specs.declared.Task.{Task}
 use Rattle.rules.specs.Passes.{entry, candidates, prefixed, combinations}
 use Rattle.passes.specs.Slices.{Slices}
 use Rattle.passes.specs.Follow.{entryAt, entriesTo, under, combosFrom, occursIn, allIn}

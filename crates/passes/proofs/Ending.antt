@@ -12,7 +12,7 @@ use Rattle.numbers.specs.Lists.{written}
 use Rattle.rules.specs.declared.Answer.{Answer}
 use Rattle.rules.specs.declared.Answer.the-variants.{Noncircular}
 use Rattle.rules.specs.declared.Entry.{Entry}
-use Rattle.passes.specs.declared.Run.{Run}
+use Rattle.steps.specs.declared.Run.{Run}
 use Rattle.rules.specs.Passes.{System, State, Ran, going, stopped, andThen, noRoot, pass, Outcome, outcome, after, passesFrom, passes}
 use Rattle.passes.specs.Slices.{Slices, roomOf, Tells}
 use Rattle.passes.specs.Follow.{reportOf, entryAt, entriesTo, stateOf, ranOf, Beyond, Kept, Follows, Roomy}

@@ -15,7 +15,9 @@ use Rattle.numbers.specs.Lists.{both, written}
 use Rattle.rules.specs.declared.Entry.{Entry}
 use Rattle.rules.specs.Passes.{noEntry, entry, known}
 use Rattle.passes.specs.Slices.{Slices, slices, kidsOf}
-use Rattle.passes.specs.Follow.{entryAt, entriesTo, seenIn, occursIn, allIn, Beyond}
+use Rattle.steps.specs.Slices.{put}
+use Rattle.steps.specs.Step.{seenIn}
+use Rattle.passes.specs.Follow.{entryAt, entriesTo, occursIn, allIn, Beyond}
 
 -- ---- a list of entries that grows at its end
 
@@ -73,29 +75,6 @@ graphs-same σ n (i ∷ combo) h =
 
 -- ---- the searches, from the last entry down
 
--- a count that was just taken down by one
-pub down : (f : ℕ → Bool) (k : ℕ) → 0 < k → f k ≡ f (suc (k - 1))
-down f k h =
-    let q : k ≡ suc (k - 1) = omega arith in
-    ap f q
-
-module _ (symbols graphs : List ℕ) (y g : ℕ) where
-  pub seen-none : seenIn symbols graphs y g 0 ≡ false
-  unfolding seenIn
-  seen-none = refl
-
-  pub seen-hit : (n : ℕ) → getD symbols n 0 ≡ y → getD graphs n 0 ≡ g → seenIn symbols graphs y g (suc n) ≡ true
-  unfolding seenIn both
-  seen-hit n h i = simp (eq-eqb _ _ h, eq-eqb _ _ i)
-
-  pub seen-other-symbol : (n : ℕ) → (getD symbols n 0 ≡ y → ⊥) → seenIn symbols graphs y g (suc n) ≡ seenIn symbols graphs y g n
-  unfolding seenIn both
-  seen-other-symbol n h = simp (ne-eqb _ _ h)
-
-  pub seen-other-graph : (n : ℕ) → getD symbols n 0 ≡ y → (getD graphs n 0 ≡ g → ⊥) → seenIn symbols graphs y g (suc n) ≡ seenIn symbols graphs y g n
-  unfolding seenIn both
-  seen-other-graph n h i = simp (eq-eqb _ _ h, ne-eqb _ _ i)
-
 module _ (symbols : List ℕ) (y : ℕ) where
   pub occurs-none : occursIn symbols y 0 ≡ false
   unfolding occursIn
@@ -123,11 +102,6 @@ module _ (symbols rights : List ℕ) (first : ℕ) where
   all-lacks n h = rw h
 
 -- ---- one more entry
-
-abbrev pub put : Slices → ℕ → Entry → Slices
-put σ n e =
-    slices (set (σ .symbols) n (e .symbol)) (set (σ .graphs) n (e .graph)) (set (σ .productions) n (e .production))
-    (sets (σ .kids) (7 * n) (e .kids))
 
 drop-sets : (vs l : List ℕ) (i n : ℕ) → i + length vs ≤ n → drop n (sets l i vs) ≡ drop n l
 drop-sets [] l i n h = refl

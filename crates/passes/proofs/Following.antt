@@ -8,8 +8,8 @@ use native.Mathlib.Omega.{arith}
 use lib.ListN.{drop}
 use lib.Seq.{drop-drop}
 use Rattle.rules.specs.declared.Answer.{Answer}
-use Rattle.passes.specs.declared.Run.{Run}
-use Rattle.passes.specs.declared.Task.{Task}
+use Rattle.steps.specs.declared.Run.{Run}
+use Rattle.steps.specs.declared.Task.{Task}
 use Rattle.rules.specs.Passes.{System, State, Ran, going, stopped, andThen, try, tries, turn, pass}
 use Rattle.passes.specs.Slices.{Slices}
 use Rattle.passes.specs.Follow.{stateOf, ranBy, ranOf, Beyond, Kept, Follows, Roomy, Ready}

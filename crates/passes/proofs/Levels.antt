@@ -10,8 +10,8 @@ use native.Mathlib.Omega.{arith}
 use lib.ListN.{length, getD, set, take, replicate}
 use lib.Seq.{append-snoc, length-take-le, take-suc-set, getD-set-same, getD-set-other, set-append-seam}
 use Rattle.rules.specs.declared.Entry.{Entry}
-use Rattle.passes.specs.declared.Run.{Run}
-use Rattle.passes.specs.declared.Task.{Task}
+use Rattle.steps.specs.declared.Run.{Run}
+use Rattle.steps.specs.declared.Task.{Task}
 use Rattle.rules.specs.Passes.{State, Ran, going, entry, seven, try, tries}
 use Rattle.passes.specs.Slices.{Slices}
 use Rattle.passes.specs.Follow.{entryAt, entriesTo, Follows, Ready, Picked, systemBy, combosFrom}

@@ -6,7 +6,7 @@ use Prim.Native.Nat.{ℕ, _+_, _-_, _≤_}
 use native.Mathlib.Omega.{arith}
 use Rattle.numbers.specs.Lists.{upFrom}
 use Rattle.numbers.proofs.Keeping.{up-more}
-use Rattle.passes.specs.declared.Run.{Run}
+use Rattle.steps.specs.declared.Run.{Run}
 use Rattle.rules.specs.Passes.{System, State, Ran, going, turn, pass}
 use Rattle.passes.specs.Slices.{Slices}
 use Rattle.passes.specs.Follow.{Follows}

@@ -1,6 +1,6 @@
--- One combination: the verdict by its tests, and the six steps by the verdict. Assumes nothing.
+-- One combination that is tried follows the rule of the six steps. Assumes nothing.
 use mathlib.Core.Path.{_≡_, refl, sym, ap, ap₂, _∙_}
-use mathlib.Core.Bool.{Bool, true, false, false≢true}
+use mathlib.Core.Bool.{Bool, true, false}
 use mathlib.Core.List.{List}
 use Prim.Native.Nat.{ℕ, suc, _+_, _-_, _*_, _≤_, _<_}
 use native.Mathlib.Numerals.{add-one}
@@ -8,71 +8,24 @@ use native.Mathlib.Omega.{arith}
 use lib.Dec.{leb, eqb}
 use lib.ListN.{length, getD, take, length-take}
 use lib.Seq.{getD-take}
-use borrow.Author.Tests.{eqb-false}
 use Rattle.numbers.proofs.Decides.{same-test, le-decides, eq-decides}
-use Rattle.rules.specs.declared.Answer.the-variants.{Circular, OutOfSteps, OutOfRoom}
+use Rattle.rules.specs.declared.Answer.the-variants.{Circular}
 use Rattle.rules.specs.declared.Entry.{Entry}
-use Rattle.passes.specs.declared.Run.{Run}
-use Rattle.passes.specs.declared.Task.{Task}
-use Rattle.passes.specs.declared.Verdict.{Verdict}
-use Rattle.passes.specs.declared.Verdict.the-variants.{Steps, Circle, Known, Full, New}
-use Rattle.rules.specs.Passes.{State, Ran, going, stopped, andThen, numbered, noRoot, known, six, counted, stored, graphs, try}
+use Rattle.steps.specs.declared.Run.{Run}
+use Rattle.steps.specs.declared.Task.{Task}
+use Rattle.steps.specs.declared.Verdict.{Verdict}
+use Rattle.steps.specs.declared.Verdict.the-variants.{Steps, Circle, Known, Full, New}
+use Rattle.graph.specs.Rows.{hasCircle, rootGraph}
+use Rattle.rules.specs.Passes.{State, Ran, going, stopped, andThen, numbered, noRoot, six, counted, stored, graphs, try}
 use Rattle.rules.proofs.Stored.{length-seven}
 use Rattle.passes.specs.Slices.{Slices}
-use Rattle.passes.specs.Follow.{goesOn, stops, stateOf, ranOf, Follows, Ready, Picked, systemBy, seenIn, graphsOf, verdict, judged}
-use Rattle.passes.proofs.Entries.{length-entries, seen-known, graphs-same, put, put-stay, put-entries, set-beyond, sets-beyond}
+use Rattle.steps.specs.Slices.{put, roomOf}
+use Rattle.steps.specs.Step.{goesOn, closedOver, graphsOf, seenIn, verdict, judged, runAt, slicesAt, fits, Tried}
+use Rattle.steps.proofs.Judged.{counts, stores, is-left, has-room}
+use Rattle.steps.proofs.Fit.{fits-decides}
+use Rattle.passes.specs.Follow.{stateOf, ranOf, Follows, Ready, Picked, systemBy}
+use Rattle.passes.proofs.Entries.{length-entries, seen-known, graphs-same, put-stay, put-entries, set-beyond, sets-beyond}
 use Rattle.passes.proofs.Following.{kept-same, going-by}
-
--- the verdict from the answers of the four tests
-pub judged-by : (k : Task) (rows symbols graphs : List ℕ) (r : Run) (picked : List ℕ) (steps circle known full : Bool) (graph : ℕ)
-    → eqb (r .left) 0 ≡ steps
-    → circle ≡ systemBy k rows .circle (k .number) (graphsOf graphs k picked)
-    → graph ≡ systemBy k rows .graph (k .number) (graphsOf graphs k picked)
-    → seenIn symbols graphs (k .symbol) graph (r .stored) ≡ known
-    → eqb (r .stored) (k .room) ≡ full
-    → verdict steps circle known full graph ≡ judged k rows symbols graphs r picked
-unfolding judged
-judged-by k rows symbols graphs r picked steps circle known full graph h₁ h₂ h₃ h₄ h₅ = cc
-
--- ---- what a verdict says of the tests
-
-abbrev pub counts : Verdict → Bool
-counts Steps = false
-counts Circle = true
-counts Known = true
-counts Full = true
-counts (New graph) = true
-
-abbrev pub stores : Verdict → Bool
-stores Steps = false
-stores Circle = false
-stores Known = false
-stores Full = false
-stores (New graph) = true
-
-counts-by : (a b c d : Bool) (g : ℕ) → counts (verdict a b c d g) ≡ true → a ≡ false
-unfolding verdict
-counts-by true b c d g h = absurd (false≢true h)
-counts-by false b c d g h = refl
-
-stores-by : (a b c d : Bool) (g : ℕ) → stores (verdict a b c d g) ≡ true → d ≡ false
-unfolding verdict
-stores-by true b c d g h = absurd (false≢true h)
-stores-by false true c d g h = absurd (false≢true h)
-stores-by false false true d g h = absurd (false≢true h)
-stores-by false false false true g h = absurd (false≢true h)
-stores-by false false false false g h = refl
-
-module _ (k : Task) (rows symbols graphs : List ℕ) (r : Run) (picked : List ℕ) where
-  -- a verdict that counts the closure: one is left
-  pub is-left : counts (judged k rows symbols graphs r picked) ≡ true → 1 ≤ r .left
-  unfolding judged
-  is-left h = omega (arith, eqb-false (r .left) 0 (counts-by _ _ _ _ _ h))
-
-  -- one that stores: there is room
-  pub has-room : stores (judged k rows symbols graphs r picked) ≡ true → r .stored ≤ k .room → r .stored < k .room
-  unfolding judged
-  has-room h l = omega (arith, eqb-false (r .stored) (k .room) (stores-by _ _ _ _ _ h))
 
 -- ---- the six steps by the verdict
 
@@ -104,6 +57,14 @@ left-by : (k : Task) (rows : List ℕ) (p : ℕ) → systemBy k rows .left p ≡
 unfolding systemBy
 left-by k rows p = refl
 
+circle-by : (k : Task) (rows : List ℕ) (p : ℕ) (gs : List ℕ) → systemBy k rows .circle p gs ≡ hasCircle (closedOver rows gs)
+unfolding systemBy
+circle-by k rows p gs = refl
+
+graph-by : (k : Task) (rows : List ℕ) (p : ℕ) (gs : List ℕ) → systemBy k rows .graph p gs ≡ rootGraph 8 (closedOver rows gs)
+unfolding systemBy
+graph-by k rows p gs = refl
+
 pub length-picked : (k : Task) (n : ℕ) (picked : List ℕ) → n ≤ 7 → Picked k n picked → length picked ≡ 7
 length-picked k n picked few slots = ap length (slots .slots) ∙ length-seven (take n picked) (omega (arith, length-take n picked))
 
@@ -123,14 +84,20 @@ module _ (k : Task) (rows : List ℕ) (σ : Slices) (r : Run) (picked : List ℕ
   seven-picked : length picked ≡ 7
   seven-picked = length-picked k (k .count) picked (ready .few) slots
 
+  abbrev closed : List ℕ
+  closed = closedOver rows (graphsOf (σ .graphs) k picked)
+
+  -- what the six steps do at a verdict
+  abbrev acts : Verdict → ℕ → Ran
+  acts v limit = acted v (k .number) picked (stateOf limit σ r) (counted (stateOf limit σ r)) (λ g. stored (new g) (stateOf limit σ r))
+
   picked-below : (i : ℕ) → i < length combo → getD combo i 0 < r .stored
   picked-below i l =
       let h : i < k .count = omega (arith, length-take (k .count) picked) in
       omega (arith, slots .below i h, getD-take (k .count) picked i 0 h, ready .first)
 
   tried : (limit : ℕ) → r .left ≤ limit
-      → andThen (ranOf limit σ r) (rule limit)
-      ≡ acted now (k .number) picked (stateOf limit σ r) (counted (stateOf limit σ r)) (λ g. stored (new g) (stateOf limit σ r))
+      → andThen (ranOf limit σ r) (rule limit) ≡ acts now limit
   unfolding try judged
   tried limit l =
       ap (λ (x : Ran). andThen x (rule limit)) (going-by (r .going) (r .answer) (r .root) (stateOf limit σ r) (ready .going))
@@ -139,71 +106,38 @@ module _ (k : Task) (rows : List ℕ) (σ : Slices) (r : Run) (picked : List ℕ
         left-by k rows (k .number),
         ← graphs-same σ (r .stored) combo picked-below,
         ← slots .slots,
-        ← seen-known σ (k .symbol) (systemBy k rows .graph (k .number) (graphsOf (σ .graphs) k picked)) (r .stored),
+        circle-by k rows (k .number) (graphsOf (σ .graphs) k picked),
+        graph-by k rows (k .number) (graphsOf (σ .graphs) k picked),
+        ← seen-known σ (k .symbol) (rootGraph 8 closed) (r .stored),
         length-entries σ (r .stored),
         full-by (k .room) (r .stored) (ready .roomy .stored),
       )
-      (six-acted (eqb (r .left) 0) (systemBy k rows .circle (k .number) (graphsOf (σ .graphs) k picked))
-      (seenIn (σ .symbols) (σ .graphs) (k .symbol) (systemBy k rows .graph (k .number) (graphsOf (σ .graphs) k picked)) (r .stored))
-      (eqb (r .stored) (k .room)) (systemBy k rows .graph (k .number) (graphsOf (σ .graphs) k picked))
+      (six-acted (eqb (r .left) 0) (hasCircle closed) (seenIn (σ .symbols) (σ .graphs) (k .symbol) (rootGraph 8 closed) (r .stored))
+      (eqb (r .stored) (k .room)) (rootGraph 8 closed)
       (k .number) picked (stateOf limit σ r) (counted (stateOf limit σ r)) (λ g. stored (new g) (stateOf limit σ r)))
 
   -- nothing is stored
   quiet : (v : Verdict) (q : Run) → now ≡ v → q .stored ≡ r .stored → q .left ≤ r .left
-      → ((limit : ℕ) → r .left ≤ limit
-      → ranOf limit σ q
-      ≡ acted v (k .number) picked (stateOf limit σ r) (counted (stateOf limit σ r)) (λ g. stored (new g) (stateOf limit σ r)))
+      → ((limit : ℕ) → r .left ≤ limit → ranOf limit σ q ≡ acts v limit)
       → Follows (k .room) rule σ r σ q
   quiet v q h e l same =
       record {
         kept = kept-same (k .room) σ r q e l (ready .roomy .stored);
         ran =
             λ limit i. same limit i
-            ∙ sym
-            (ap (λ (x : Verdict). acted x (k .number) picked (stateOf limit σ r) (counted (stateOf limit σ r)) (λ g. stored (new g) (stateOf limit σ r))) h)
+            ∙ sym (ap (λ (x : Verdict). acts x limit) h)
             ∙ sym (tried limit i);
       }
 
-  one-more : (limit : ℕ) → r .left ≤ limit → 1 ≤ r .left → limit - (r .left - 1) ≡ suc (limit - r .left)
-  one-more limit l h = omega arith
-
-  pub follows-steps : now ≡ Steps → Follows (k .room) rule σ r σ (stops OutOfSteps noRoot (r .left) (r .stored))
-  unfolding numbered
-  follows-steps h = quiet Steps _ h refl (omega arith) (λ limit l. refl)
-
-  pub follows-circle : now ≡ Circle → Follows (k .room) rule σ r σ (stops (Circular (k .number)) picked (r .left - 1) (r .stored))
-  follows-circle h =
-      quiet Circle _ h refl (omega arith)
-      (λ limit l. rw (one-more limit l (is-left k rows (σ .symbols) (σ .graphs) r picked (ap counts h))))
-
-  pub follows-known : now ≡ Known → Follows (k .room) rule σ r σ (goesOn (r .left - 1) (r .stored))
-  follows-known h =
-      quiet Known _ h refl (omega arith)
-      (λ limit l. rw (one-more limit l (is-left k rows (σ .symbols) (σ .graphs) r picked (ap counts h))))
-
-  pub follows-full : now ≡ Full → Follows (k .room) rule σ r σ (stops OutOfRoom noRoot (r .left - 1) (r .stored))
-  unfolding numbered
-  follows-full h =
-      quiet Full _ h refl (omega arith)
-      (λ limit l. rw (one-more limit l (is-left k rows (σ .symbols) (σ .graphs) r picked (ap counts h))))
+  -- one closure is counted
+  one-closure : (v : Verdict) → now ≡ v → counts v ≡ true → (limit : ℕ) → r .left ≤ limit → limit - (r .left - 1) ≡ suc (limit - r .left)
+  one-closure v h i limit l = omega (arith, is-left k rows (σ .symbols) (σ .graphs) r picked (ap counts h ∙ i))
 
   module _ (graph : ℕ) (h : now ≡ New graph) where
-    pub room-left : r .stored < k .room
+    room-left : r .stored < k .room
     room-left = has-room k rows (σ .symbols) (σ .graphs) r picked (ap stores h) (ready .roomy .stored)
 
-    pub in-symbols : r .stored < length (σ .symbols)
-    in-symbols = omega (arith, room-left, ready .roomy .symbols)
-
-    pub in-graphs : r .stored < length (σ .graphs)
-    in-graphs = omega (arith, room-left, ready .roomy .graphs)
-
-    pub in-productions : r .stored < length (σ .productions)
-    in-productions = omega (arith, room-left, ready .roomy .productions)
-
-    pub in-kids : 7 * r .stored + 7 ≤ length (σ .kids)
-    in-kids = omega (arith, room-left, ready .roomy .kids)
-
-    pub follows-new : Follows (k .room) rule σ r (put σ (r .stored) (new graph)) (goesOn (r .left - 1) (r .stored + 1))
+    follows-new : Follows (k .room) rule σ r (put σ (r .stored) (new graph)) (goesOn (r .left - 1) (r .stored + 1))
     follows-new =
         record {
           kept =
@@ -219,9 +153,31 @@ module _ (k : Task) (rows : List ℕ) (σ : Slices) (r : Run) (picked : List ℕ
               };
           ran =
               λ limit l. ap₂ (λ (es : List Entry) (n : ℕ). going (record { entries = es; made = n }))
-              (rw add-one (put-entries σ (r .stored) (new graph) in-symbols in-graphs in-productions in-kids seven-picked))
-              (one-more limit l (is-left k rows (σ .symbols) (σ .graphs) r picked (ap counts h)))
-              ∙ sym
-              (ap (λ (x : Verdict). acted x (k .number) picked (stateOf limit σ r) (counted (stateOf limit σ r)) (λ g. stored (new g) (stateOf limit σ r))) h)
+              (rw add-one (put-entries σ (r .stored) (new graph) (omega (arith, room-left, ready .roomy .symbols))
+              (omega (arith, room-left, ready .roomy .graphs)) (omega (arith, room-left, ready .roomy .productions))
+              (omega (arith, room-left, ready .roomy .kids)) seven-picked))
+              (one-closure (New graph) h refl limit l)
+              ∙ sym (ap (λ (x : Verdict). acts x limit) h)
               ∙ sym (tried limit l);
         }
+
+  follows-at : (v : Verdict) → now ≡ v → Follows (k .room) rule σ r (slicesAt v k picked r σ) (runAt v k picked r)
+  unfolding runAt slicesAt numbered
+  follows-at Steps h = quiet Steps _ h refl (omega arith) (λ limit l. refl)
+  follows-at Circle h = quiet Circle _ h refl (omega arith) (λ limit l. rw (one-closure Circle h refl limit l))
+  follows-at Known h = quiet Known _ h refl (omega arith) (λ limit l. rw (one-closure Known h refl limit l))
+  follows-at Full h = quiet Full _ h refl (omega arith) (λ limit l. rw (one-closure Full h refl limit l))
+  follows-at (New graph) h = follows-new graph h
+
+  it-fits : fits (roomOf σ) k picked r ≡ true
+  it-fits =
+      fits-decides (roomOf σ) k picked r .passes
+      (record {
+        few = ready .few;
+        within = ready .roomy .stored;
+        held = omega (arith, ready .roomy .symbols, ready .roomy .graphs, ready .roomy .productions, ready .roomy .kids, ready .roomy .small);
+        below = λ i l. omega (arith, slots .below i l, ready .first);
+      })
+
+  pub follows-tried : (q : Run) (τ : Slices) → Tried k rows picked r σ q τ → Follows (k .room) rule σ r τ q
+  follows-tried q τ t = rw (t .run it-fits, t .slices it-fits) (follows-at now refl)

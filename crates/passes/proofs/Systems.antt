@@ -4,8 +4,8 @@ use mathlib.Core.List.{List, [], _∷_, map}
 use Prim.Native.Nat.{ℕ}
 use lib.ListN.{length, take, length-map}
 use Rattle.rules.specs.declared.Entry.{Entry}
-use Rattle.passes.specs.declared.Run.{Run}
-use Rattle.passes.specs.declared.Task.{Task}
+use Rattle.steps.specs.declared.Run.{Run}
+use Rattle.steps.specs.declared.Task.{Task}
 use Rattle.rules.specs.Passes.{System, State, Ran, andThen, entry, graphs, candidates, combinations, try, tries, turn}
 use Rattle.rules.proofs.Stored.{Each, each-combination}
 use Rattle.passes.specs.Slices.{Slices}

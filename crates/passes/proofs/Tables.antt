@@ -24,8 +24,8 @@ use Rattle.grammar.proofs.Valid.{valid}
 use Rattle.graph.specs.Rows.{own, placedFrom, compound, closure, hasCircle, rootGraph}
 use Rattle.graph.specs.Compound.{Within, EdgesWithin}
 use Rattle.graph.proofs.Parts.{table-compound}
-use Rattle.passes.specs.declared.Run.{Run}
-use Rattle.passes.specs.declared.Task.{Task}
+use Rattle.steps.specs.declared.Run.{Run}
+use Rattle.steps.specs.declared.Task.{Task}
 use Rattle.rules.specs.Passes.{turn}
 use Rattle.rules.specs.Test.{systemOf}
 use Rattle.rules.proofs.Stored.{slots-seven}

@@ -9,16 +9,14 @@ use lib.ListN.{length, getD, take, drop, replicate}
 use Rattle.numbers.specs.Lists.{both}
 use Rattle.grammar.specs.Grammar.{production, edgesOf}
 use Rattle.grammar.specs.Table.{grammarOf}
-use Rattle.graph.specs.Rows.{own, placedFrom, closure, hasCircle, rootGraph}
+use Rattle.graph.specs.Rows.{own, hasCircle, rootGraph}
 use Rattle.rules.specs.declared.Answer.{Answer}
-use Rattle.rules.specs.declared.Answer.the-variants.{Noncircular}
 use Rattle.rules.specs.declared.Entry.{Entry}
 use Rattle.rules.specs.declared.Report.{Report}
-use Rattle.passes.specs.declared.Run.{Run}
-use Rattle.passes.specs.declared.Task.{Task}
-use Rattle.passes.specs.declared.Verdict.{Verdict}
-use Rattle.passes.specs.declared.Verdict.the-variants.{Steps, Circle, Known, Full, New}
-use Rattle.rules.specs.Passes.{System, State, Ran, going, stopped, andThen, noRoot, seven, candidates, combinations}
+use Rattle.steps.specs.declared.Run.{Run}
+use Rattle.steps.specs.declared.Task.{Task}
+use Rattle.steps.specs.Step.{closedOver}
+use Rattle.rules.specs.Passes.{System, State, Ran, going, stopped, andThen, seven, candidates, combinations}
 use Rattle.passes.specs.Slices.{Slices}
 
 -- ---- the slices and a run, in the words of the rules
@@ -36,13 +34,6 @@ entryAt σ i =
 unfoldable pub entriesTo : Slices → ℕ → List Entry
 entriesTo σ zero = []
 entriesTo σ (suc n) = entriesTo σ n ++ (entryAt σ n ∷ [])
-
--- a run that goes on, and one that has stopped
-abbrev pub goesOn : ℕ → ℕ → Run
-goesOn left stored = record { going = true; answer = Noncircular; root = noRoot; left = left; stored = stored }
-
-abbrev pub stops : Answer → List ℕ → ℕ → ℕ → Run
-stops a root left stored = record { going = false; answer = a; root = root; left = left; stored = stored }
 
 abbrev pub reportOf : Answer → List ℕ → ℕ → Run → ℕ → Report
 reportOf a root limit r begun = record { answer = a; closures = limit - r .left; entries = r .stored; passes = begun; root = root }
@@ -92,10 +83,6 @@ pub record Roomy (room : ℕ) (σ : Slices) (r : Run) : Type 0 where
   pub small : room ≤ 4096
 
 -- ---- one production's turn
-
--- the closed rows over the graphs gs, where `rows` are a production's own
-abbrev pub closedOver : List ℕ → List ℕ → List ℕ
-closedOver rows gs = closure (take (8 * suc (length gs)) (placedFrom 8 1 gs rows))
 
 -- a task over its production's own rows as a system, the same at each production
 unfoldable pub systemBy : Task → List ℕ → System
@@ -152,34 +139,3 @@ pub record Ready (k : Task) (σ : Slices) (r : Run) : Type 0 where
 pub record Picked (k : Task) (n : ℕ) (picked : List ℕ) : Type 0 where
   pub slots : picked ≡ seven (take n picked)
   pub below : (i : ℕ) → i < n → getD picked i 0 < k .first
-
--- each picked entry has its graph
-abbrev pub PickedIn : List ℕ → Task → List ℕ → Type 0
-PickedIn graphs k picked = (k .count ≤ 7) × ((i : ℕ) → i < k .count → getD picked i 0 < length graphs)
-
--- ---- one combination
-
--- the symbol with the graph is among the first n entries
-unfoldable pub seenIn : List ℕ → List ℕ → ℕ → ℕ → ℕ → Bool
-seenIn symbols graphs y g zero = false
-seenIn symbols graphs y g (suc n) =
-    both (eqb (getD symbols n 0) y) (eqb (getD graphs n 0) g) || seenIn symbols graphs y g n
-
--- the graphs of the picked entries
-abbrev pub graphsOf : List ℕ → Task → List ℕ → List ℕ
-graphsOf graphs k picked = map (λ i. getD graphs i 0) (take (k .count) picked)
-
--- what is to be done with a combination, by the four tests of the six steps
-unfoldable pub verdict : Bool → Bool → Bool → Bool → ℕ → Verdict
-verdict true circle known full graph = Steps
-verdict false true known full graph = Circle
-verdict false false true full graph = Known
-verdict false false false true graph = Full
-verdict false false false false graph = New graph
-
-unfoldable pub judged : Task → List ℕ → List ℕ → List ℕ → Run → List ℕ → Verdict
-judged k rows symbols graphs r picked =
-    let W = systemBy k rows in
-    let gs = graphsOf graphs k picked in
-    verdict (eqb (r .left) 0) (W .circle (k .number) gs) (seenIn symbols graphs (k .symbol) (W .graph (k .number) gs) (r .stored))
-    (eqb (r .stored) (k .room)) (W .graph (k .number) gs)

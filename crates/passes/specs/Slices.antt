@@ -1,28 +1,13 @@
 -- The test over four parallel lent slices of numbers: what it promises. Assumes nothing.
 use mathlib.Core.List.{List, [], _∷_, _++_, map}
 use mathlib.Core.Path.{_≡_}
-use Prim.Native.Nat.{ℕ, _/_, min}
-use lib.ListN.{length}
+use Prim.Native.Nat.{ℕ}
 use Rattle.numbers.specs.Lists.{written}
 use Rattle.rules.specs.declared.Report.{Report}
 use Rattle.rules.specs.declared.Entry.{Entry}
 use Rattle.rules.specs.Passes.{Outcome}
 use Rattle.rules.specs.Test.{test}
-
-pub record Slices : Type 0 where
-  pub symbols : List ℕ
-  pub graphs : List ℕ
-  pub productions : List ℕ
-  pub kids : List ℕ
-
-abbrev pub slices : List ℕ → List ℕ → List ℕ → List ℕ → Slices
-slices a b c d = record { symbols = a; graphs = b; productions = c; kids = d }
-
--- the room is the smallest of what each slice can hold, seven kids for each entry, and at most 4096
-abbrev pub roomOf : Slices → ℕ
-roomOf σ =
-    min 4096
-    (min (length (σ .symbols)) (min (length (σ .graphs)) (min (length (σ .productions)) (length (σ .kids) / 7))))
+pub use Rattle.steps.specs.Slices.{Slices, slices, roomOf}
 
 -- the kids of all entries, one after the other
 unfoldable pub kidsOf : List Entry → List ℕ

@@ -10,14 +10,14 @@ use Rattle.passes.specs.Slices.{Slices, slices}
 use Rattle.passes.specs.Follow.{Kept, Roomy, Ready, Picked}
 use Rattle.passes.proofs.Following.{kept-roomy, kept-ready}
 use Rattle.passes.proofs.Levels.{Passed, level-leaf, level-start, level-hit, level-other, level-end, level-stop, picked-more}
-use Rattle.passes.proofs.Six.{length-picked}
+use Rattle.passes.proofs.Six.{length-picked, follows-tried}
 use borrow.Fn.Kinds.{In}
 use borrow.Fn.PlainCycle.{Measures, is, falls, and}
 use Rattle.passes.proofs.level.Reads as level
 use Rattle.passes.proofs.level.Kinds as level-kinds
 use Rattle.passes.proofs.+level.Lts-level as level-lts
 use Rattle.passes.proofs.put.Reads as put-reads
-use Rattle.passes.proofs.try_one.Reads as try-one-reads
+use Rattle.steps.proofs.try_one.Reads as try-one-reads
 use Rattle.passes.proofs.+level.{statement}
 use Rattle.passes.proofs.+level.Tie.{close}
 
@@ -85,10 +85,7 @@ module _ (t : ℕ) (c : level-lts.At-loop (K t) (level-at t) level.Post level-In
       omega (arith, few, length-picked (start .args .task) at (start .args .picked) (omega (arith, few)) numbers)
 
 level-try-one-requires : (t : ℕ) → level-lts.Need-try-one-requires (K t) (level-at t) level.Post level-Inv-loop level-μ-loop
-level-try-one-requires t c κs =
-    let s = c .before .before .before .before .before .before .before .before .before in
-    let none : s .args .task .count - s .args .left ≡ s .args .task .count = omega (arith, c .before .before .before .before .if1 .taken) in
-    (s .pre .1 .1, subst (λ (n : ℕ). Picked (s .args .task) n (s .args .picked)) none (s .pre .1 .2))
+level-try-one-requires t c κs = search needs
 
 level-same-length : (t : ℕ) → level-lts.Need-same-length (K t) (level-at t) level.Post level-Inv-loop level-μ-loop
 level-same-length t c = search needs
@@ -104,9 +101,12 @@ level-same-length-4 t c = search needs
 
 level-returns : (t : ℕ) → level-lts.Need-returns (K t) (level-at t) level.Post level-Inv-loop level-μ-loop
 level-returns t c =
-    let a = c .before .before .before .before .before .before .before .before .before .before .before .before .before .before .before .before .before .before .args in
-    let none : a .task .count - a .left ≡ a .task .count = omega (arith, c .before .before .before .before .before .before .before .before .before .before .before .before .before .if1 .taken) in
-    level-leaf (a .task) (a .own .now) _ _ (a .run) (a .task .count - a .left) (a .picked) _ _ none (c .before .before .before .before .before .before .before .before .try-one .ensures)
+    let s = c .before .before .before .before .before .before .before .before .before .before .before .before .before .before .before .before .before .before in
+    let k = s .args .task in
+    let none : k .count - s .args .left ≡ k .count = omega (arith, c .before .before .before .before .before .before .before .before .before .before .before .before .before .if1 .taken) in
+    let picked : Picked k (k .count) (s .args .picked) = subst (λ (n : ℕ). Picked k n (s .args .picked)) none (s .pre .1 .2) in
+    level-leaf k (s .args .own .now) _ _ (s .args .run) (k .count - s .args .left) (s .args .picked) _ _ none
+    (follows-tried k (s .args .own .now) _ (s .args .run) (s .args .picked) (s .pre .1 .1) picked _ _ (c .before .before .before .before .before .before .before .before .try-one .ensures))
 
 level-sub-at : (t : ℕ) → level-lts.Need-sub-at (K t) (level-at t) level.Post level-Inv-loop level-μ-loop
 level-sub-at t c = search needs

@@ -4,8 +4,9 @@ use Prim.Native.Nat.{_≤_, _-_}
 use borrow.Author.Needs.{needs}
 use borrow.Author.Tests.{not-true, not-false}
 use native.Mathlib.Omega.{arith}
+use Rattle.steps.proofs.Judged.{down}
 use Rattle.passes.specs.Follow.{allIn}
-use Rattle.passes.proofs.Entries.{all-none, all-more, all-lacks, down}
+use Rattle.passes.proofs.Entries.{all-none, all-more, all-lacks}
 use Rattle.passes.proofs.all_occur.Statement.{statement}
 use Rattle.passes.proofs.all_occur.Tie as tie
 

@@ -3,8 +3,9 @@ use mathlib.Core.Path.{_≡_, refl}
 use Prim.Native.Nat.{_≤_, _-_}
 use borrow.Author.Needs.{needs}
 use native.Mathlib.Omega.{arith}
+use Rattle.steps.proofs.Judged.{down}
 use Rattle.passes.specs.Follow.{occursIn}
-use Rattle.passes.proofs.Entries.{occurs-hit, occurs-other, occurs-none, down}
+use Rattle.passes.proofs.Entries.{occurs-hit, occurs-other, occurs-none}
 use Rattle.passes.proofs.occurs.Statement.{statement}
 use Rattle.passes.proofs.occurs.Tie as tie
 

@@ -8,11 +8,12 @@ use borrow.Author.Tests.{not-true, not-false}
 use native.Mathlib.Omega.{arith}
 use Rattle.numbers.specs.Lists.{upFrom}
 use Rattle.grammar.specs.Table.{grammarOf}
-use Rattle.passes.specs.declared.Run.{Run}
+use Rattle.steps.specs.declared.Run.{Run}
 use Rattle.rules.specs.Passes.{System}
 use Rattle.rules.specs.Test.{systemOf}
 use Rattle.passes.specs.Slices.{Slices, slices}
-use Rattle.passes.specs.Follow.{goesOn, Follows, Kept, Roomy}
+use Rattle.steps.specs.Step.{goesOn}
+use Rattle.passes.specs.Follow.{Follows, Kept, Roomy}
 use Rattle.passes.proofs.Following.{kept-then, kept-roomy}
 use Rattle.passes.proofs.Passing.{through}
 use Rattle.passes.proofs.Ending.{roomy-start, tells, Reached, reached-start, reached-more, ends-stop, ends-done}
@@ -45,10 +46,10 @@ module _ (c : tie.At-loop Inv-loop μ-loop) where
   σ = slices (c .loop .symbols) (c .loop .graphs) (c .loop .productions) (c .loop .kids)
 
   abbrev r₀ : Run
-  r₀ = c .before .going-on .result
+  r₀ = c .before .begins .result
 
   begins : r₀ ≡ goesOn (start .args .limit) 0
-  begins = c .before .going-on .ensures
+  begins = c .before .begins .ensures
 
   roomy : Roomy (start .args .room) σ (c .loop .now)
   roomy =
@@ -79,14 +80,14 @@ module _ (c : tie.After-pass Inv-loop μ-loop) where
   roomy-then : Roomy (start l .args .room) τ q
   roomy-then = kept-roomy (start l .args .room) (σ l) (l .loop .now) τ q (followed .kept) (roomy l)
 
-going-on-requires : tie.Need-going-on-requires Inv-loop μ-loop
-going-on-requires c κs = search needs
+begins-requires : tie.Need-begins-requires Inv-loop μ-loop
+begins-requires c κs = search needs
 
 loop-holds : tie.Need-loop-holds Inv-loop μ-loop
 loop-holds c =
     let s = c .before .before .before .before .before .before in
-    let b = c .going-on .ensures in
-    reached-start (systemOf 8 (grammarOf (s .args .table .now))) (s .args .limit) (s .args .room) (upFrom 0 (s .args .count)) _ (c .going-on .result)
+    let b = c .begins .ensures in
+    reached-start (systemOf 8 (grammarOf (s .args .table .now))) (s .args .limit) (s .args .room) (upFrom 0 (s .args .count)) _ (c .begins .result)
     (ap (λ (x : Run). x .left) b) (ap (λ (x : Run). x .stored) b) (ap (λ (x : Run). x .going) b)
 
 add-begun : tie.Need-add-begun Inv-loop μ-loop
@@ -159,7 +160,7 @@ passes-spec =
     (tie.spec
     Inv-loop
     μ-loop
-    going-on-requires
+    begins-requires
     loop-holds
     add-begun
     pass-requires

@@ -1,12 +1,12 @@
--- `passes::judge` meets its contract: each answer by the tests that led to it. Assumes nothing.
+-- `steps::judge` meets its contract: each answer by the tests that led to it. Assumes nothing.
 use mathlib.Core.Path.{refl, sym, _∙_}
 use mathlib.Core.Bool.{true, false}
 use borrow.Author.Needs.{needs}
 use borrow.Author.Tests.{eq-eqb, ne-eqb}
-use Rattle.passes.specs.Follow.{verdict}
-use Rattle.passes.proofs.Six.{judged-by}
-use Rattle.passes.proofs.judge.Statement.{statement}
-use Rattle.passes.proofs.judge.Tie as tie
+use Rattle.steps.specs.Step.{verdict}
+use Rattle.steps.proofs.Judged.{judged-by}
+use Rattle.steps.proofs.judge.Statement.{statement}
+use Rattle.steps.proofs.judge.Tie as tie
 
 returns : tie.Need-returns
 unfolding verdict

@@ -1,4 +1,4 @@
--- `passes::closure` meets its contract. Assumes nothing.
+-- `steps::closure` meets its contract. Assumes nothing.
 use mathlib.Core.Path.{_≡_, ap, _∙_}
 use mathlib.Core.List.{List}
 use Prim.Native.Nat.{ℕ, suc, _≤_, _+_, _*_}
@@ -7,10 +7,10 @@ use native.Mathlib.Omega.{arith}
 use lib.ListN.{length, getD, take, length-map, length-take}
 use Rattle.graph.specs.Rows.{placedFrom, closedFirst, hasCircle, rootGraph}
 use Rattle.graph.proofs.Parts.{take-closed, root-closed}
-use Rattle.passes.specs.declared.Task.{Task}
-use Rattle.passes.specs.Follow.{systemBy, graphsOf}
-use Rattle.passes.proofs.closure.Statement.{statement}
-use Rattle.passes.proofs.closure.Tie as tie
+use Rattle.steps.specs.declared.Task.{Task}
+use Rattle.steps.specs.Step.{closedOver, graphsOf}
+use Rattle.steps.proofs.closure.Statement.{statement}
+use Rattle.steps.proofs.closure.Tie as tie
 
 -- the first rows of the closed table are the closure of the compound graph's rows
 module _ (k : Task) (rows graphs picked : List ℕ) (few : k .count ≤ length picked) (table closed : List ℕ)
@@ -21,15 +21,13 @@ module _ (k : Task) (rows graphs picked : List ℕ) (few : k .count ≤ length p
   nodes : 8 * (k .count + 1) ≡ 8 * suc (length gs)
   nodes = omega (arith, length-map (take (k .count) picked) (λ i. getD graphs i 0), length-take (k .count) picked)
 
-  closed-circle : hasCircle (take (8 * (k .count + 1)) closed) ≡ systemBy k rows .circle (k .number) gs
-  unfolding systemBy
+  closed-circle : hasCircle (take (8 * (k .count + 1)) closed) ≡ hasCircle (closedOver rows gs)
   closed-circle =
       ap (λ (l : List ℕ). hasCircle (take (8 * (k .count + 1)) l)) done
       ∙ ap hasCircle (take-closed (8 * (k .count + 1)) table)
       ∙ rw (nodes, placed)
 
-  closed-root : rootGraph 8 closed ≡ systemBy k rows .graph (k .number) gs
-  unfolding systemBy
+  closed-root : rootGraph 8 closed ≡ rootGraph 8 (closedOver rows gs)
   closed-root =
       ap (rootGraph 8) done ∙ root-closed 8 (8 * (k .count + 1)) table (omega arith) ∙ rw (nodes, placed)
 

@@ -1,12 +1,12 @@
--- `passes::seen` meets its contract. The invariant: the entries from k on are not the symbol with the graph. Assumes nothing.
+-- `steps::seen` meets its contract. The invariant: the entries from k on are not the symbol with the graph. Assumes nothing.
 use mathlib.Core.Path.{_≡_, refl}
 use Prim.Native.Nat.{_≤_, _-_}
 use borrow.Author.Needs.{needs}
 use native.Mathlib.Omega.{arith}
-use Rattle.passes.specs.Follow.{seenIn}
-use Rattle.passes.proofs.Entries.{seen-hit, seen-other-symbol, seen-other-graph, seen-none, down}
-use Rattle.passes.proofs.seen.Statement.{statement}
-use Rattle.passes.proofs.seen.Tie as tie
+use Rattle.steps.specs.Step.{seenIn}
+use Rattle.steps.proofs.Judged.{seen-hit, seen-other-symbol, seen-other-graph, seen-none, down}
+use Rattle.steps.proofs.seen.Statement.{statement}
+use Rattle.steps.proofs.seen.Tie as tie
 
 abbrev Inv-loop : tie.InvT-loop
 Inv-loop symbols graphs stored symbol graph k₀ k =

@@ -1,4 +1,4 @@
--- `passes::compound` meets its contract. The invariant: the pairs that are left make of the rows now what all make of them at the start.
+-- `steps::compound` meets its contract. The invariant: the pairs that are left make of the rows now what all make of them at the start.
 -- Assumes nothing.
 use mathlib.Core.Path.{_≡_, refl, sym, ap, _∙_}
 use mathlib.Core.List.{List, map}
@@ -10,8 +10,8 @@ use lib.ListN.{length, getD, take, drop, length-map, length-take, drop-of-length
 use lib.Seq.{drop-cons, getD-take}
 use Rattle.graph.specs.Rows.{placed, placedFrom}
 use Rattle.numbers.proofs.Members.{at-map}
-use Rattle.passes.proofs.compound.Statement.{statement}
-use Rattle.passes.proofs.compound.Tie as tie
+use Rattle.steps.proofs.compound.Statement.{statement}
+use Rattle.steps.proofs.compound.Tie as tie
 
 -- the graphs of the first `count` picked entries
 abbrev picks : List ℕ → ℕ → List ℕ → List ℕ

@@ -1,4 +1,4 @@
--- `passes::put_row` meets its contract. The invariant: what is left to store makes of the slice now what the whole makes of it at the
+-- `steps::put_row` meets its contract. The invariant: what is left to store makes of the slice now what the whole makes of it at the
 -- start. Assumes nothing.
 use mathlib.Core.Path.{_≡_, refl, sym, ap, _∙_}
 use mathlib.Core.List.{List}
@@ -9,8 +9,8 @@ use borrow.Author.Needs.{needs}
 use native.Mathlib.Omega.{arith}
 use lib.ListN.{length, getD, set, drop, length-set, drop-of-length-le}
 use lib.Seq.{sets, drop-cons}
-use Rattle.passes.proofs.put_row.Statement.{statement}
-use Rattle.passes.proofs.put_row.Tie as tie
+use Rattle.steps.proofs.put_row.Statement.{statement}
+use Rattle.steps.proofs.put_row.Tie as tie
 
 abbrev Inv-loop : tie.InvT-loop
 Inv-loop kids₀ at picked k₀ kids k =

@@ -1,7 +1,7 @@
--- `passes::room_of` meets its contract. Assumes nothing.
+-- `steps::room_of` meets its contract. Assumes nothing.
 use borrow.Author.Needs.{needs}
-use Rattle.passes.proofs.room_of.Statement.{statement}
-use Rattle.passes.proofs.room_of.Tie as tie
+use Rattle.steps.proofs.room_of.Statement.{statement}
+use Rattle.steps.proofs.room_of.Tie as tie
 
 smaller-requires : tie.Need-smaller-requires
 smaller-requires c κs = search needs

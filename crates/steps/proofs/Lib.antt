@@ -1,0 +1,5 @@
+-- Laws that belong to no one function.
+pub mod Judged
+pub mod Fit
+pub mod Trying
+pub mod OneReading

@@ -1,0 +1,257 @@
+// The six steps for one combination, over four parallel lent slices of numbers.
+ghost use mathlib.Core.Path.{_≡_};
+ghost use Prim.Native.Nat.{_+_, _/_, _≤_, min};
+ghost use lib.ListN.{length};
+ghost use lib.Seq.{sets};
+ghost use Rattle.graph.specs.Rows.{placedFrom, hasCircle, rootGraph};
+ghost use Rattle.steps.specs.Slices.{slices};
+ghost use Rattle.steps.specs.Step.{
+  goesOn,
+  stops,
+  PickedIn,
+  closedOver,
+  seenIn,
+  graphsOf,
+  judged,
+  allStored,
+  fits,
+  Tried,
+};
+use rules::Answer;
+
+// Where the passes stand: the closures that are left and how many entries are stored. While the passes go on, `answer` and `root`
+// mean nothing.
+pub struct Run {
+    pub going: bool,
+    pub answer: Answer,
+    pub root: [u16; 7],
+    pub left: u32,
+    pub stored: usize,
+}
+
+// The production whose turn it is, and how many entries were stored when the turn began. Its own rows are lent beside it. A step looks
+// at neither `rights` nor `first`.
+pub struct Task {
+    pub number: u16,
+    pub symbol: u16,
+    pub count: usize,
+    pub rights: [u16; 7],
+    pub room: usize,
+    pub first: usize,
+}
+
+// What one closure gives.
+struct Closed {
+    circle: bool,
+    graph: u64,
+}
+
+// What is to be done with one combination.
+pub enum Verdict {
+    Steps,
+    Circle,
+    Known,
+    Full,
+    New(u64),
+}
+
+fn wide(x: u16) -> usize
+    ensures { λ r. ⌜ r ≡ x ⌝ }
+{
+    x as usize
+}
+
+fn smaller(a: usize, b: usize) -> usize
+    ensures { λ r. ⌜ r ≡ min a b ⌝ }
+{
+    if a <= b { a } else { b }
+}
+
+// How many entries the slices can hold, seven kids each, and at most 4,096.
+pub fn room_of(symbols: usize, graphs: usize, productions: usize, kids: usize) -> usize
+    ensures { λ r. ⌜ r ≡ min 4096 (min symbols (min graphs (min productions (kids / 7)))) ⌝ }
+{
+    smaller(
+        4096,
+        smaller(symbols, smaller(graphs, smaller(productions, kids / 7))),
+    )
+}
+
+// The rows of the compound graph: to the production's own, each picked entry's pairs at its occurrence.
+fn compound(graphs: &[u64], rows: &mut [u64; 64], task: Task, picked: [u16; 7])
+    requires { ⌜ PickedIn (now graphs) task picked ⌝ }
+    ensures { λ _. ⌜ now (rows .exit) ≡ placedFrom 8 1 (graphsOf (now (graphs .entry)) task picked) (now (rows .entry)) ⌝ }
+{
+    let count = task.count;
+    let mut k = 0;
+    while k < count {
+        let kid = wide(picked[k]);
+        let pairs = graphs[kid];
+        k += 1;
+        graph::place(rows, pairs, k);
+    }
+}
+
+// One closure.
+fn closure(graphs: &[u64], own: &[u64; 64], task: Task, picked: [u16; 7]) -> Closed
+    requires { ⌜ PickedIn (now graphs) task picked ⌝ }
+    ensures { λ r. ⌜ (r .circle ≡ hasCircle (closedOver (now (own .entry)) (graphsOf (now (graphs .entry)) task picked)))
+        × (r .graph ≡ rootGraph 8 (closedOver (now (own .entry)) (graphsOf (now (graphs .entry)) task picked))) ⌝ }
+{
+    let occurrences = task.count + 1;
+    let mut rows = *own;
+    compound(graphs, &mut rows, task, picked);
+    graph::close(&mut rows, occurrences);
+    Closed {
+        circle: graph::has_circle(&rows, occurrences),
+        graph: graph::root_graph(&rows),
+    }
+}
+
+// Whether the symbol with the graph is among the first `stored` entries.
+fn seen(symbols: &[u16], graphs: &[u64], stored: usize, symbol: u16, graph: u64) -> bool
+    requires { ⌜ (stored ≤ length (now symbols)) × (stored ≤ length (now graphs)) ⌝ }
+    ensures { λ r. ⌜ r ≡ seenIn (now (symbols .entry)) (now (graphs .entry)) symbol graph stored ⌝ }
+{
+    let mut k = stored;
+    while 0 < k {
+        k -= 1;
+        if symbols[k] == symbol {
+            if graphs[k] == graph {
+                return true;
+            }
+        }
+    }
+    false
+}
+
+// Steps 1 to 5.
+fn judge(
+    symbols: &[u16],
+    graphs: &[u64],
+    own: &[u64; 64],
+    task: Task,
+    picked: [u16; 7],
+    run: Run,
+) -> Verdict
+    requires { ⌜ (run .stored ≤ length (now symbols)) × (run .stored ≤ length (now graphs)) × PickedIn (now graphs) task picked ⌝ }
+    ensures { λ r. ⌜ r ≡ judged task (now (own .entry)) (now (symbols .entry)) (now (graphs .entry)) run picked ⌝ }
+{
+    if run.left == 0 {
+        return Verdict::Steps;
+    }
+    let made = closure(graphs, own, task, picked);
+    if made.circle {
+        return Verdict::Circle;
+    }
+    if seen(symbols, graphs, run.stored, task.symbol, made.graph) {
+        return Verdict::Known;
+    }
+    if run.stored == task.room {
+        return Verdict::Full;
+    }
+    Verdict::New(made.graph)
+}
+
+// Whether the first `count` numbers are of stored entries.
+fn all_stored(picked: [u16; 7], count: usize, stored: usize) -> bool
+    requires { ⌜ count ≤ 7 ⌝ }
+    ensures { λ r. ⌜ r ≡ allStored picked stored count ⌝ }
+{
+    let mut k = count;
+    while 0 < k {
+        k -= 1;
+        let kid = wide(picked[k]);
+        if stored <= kid {
+            return false;
+        }
+    }
+    true
+}
+
+// Whether the task, the run and the combination are such that slices with this room hold them.
+fn fitting(room: usize, task: Task, picked: [u16; 7], run: Run) -> bool
+    ensures { λ r. ⌜ r ≡ fits room task picked run ⌝ }
+{
+    if 7 < task.count {
+        return false;
+    }
+    if task.room < run.stored {
+        return false;
+    }
+    if room < task.room {
+        return false;
+    }
+    all_stored(picked, task.count, run.stored)
+}
+
+// Stores the seven slots of an entry.
+fn put_row(kids: &mut [u16], at: usize, picked: [u16; 7])
+    requires { ⌜ at + 7 ≤ length (now kids) ⌝ }
+    ensures { λ _. ⌜ now (kids .exit) ≡ sets (now (kids .entry)) at picked ⌝ }
+{
+    for k in 0..7 {
+        kids[at + k] = picked[k];
+    }
+}
+
+fn going_on(left: u32, stored: usize) -> Run
+    ensures { λ r. ⌜ r ≡ goesOn left stored ⌝ }
+{
+    Run {
+        going: true,
+        answer: Answer::Noncircular,
+        root: [0u16; 7],
+        left,
+        stored,
+    }
+}
+
+fn stopped(answer: Answer, root: [u16; 7], left: u32, stored: usize) -> Run
+    ensures { λ r. ⌜ r ≡ stops answer root left stored ⌝ }
+{
+    Run {
+        going: false,
+        answer,
+        root,
+        left,
+        stored,
+    }
+}
+
+// The six steps for one combination. Where the slices do not hold what is said to be stored, nothing is done.
+pub fn try_one(
+    symbols: &mut [u16],
+    graphs: &mut [u64],
+    productions: &mut [u16],
+    kids: &mut [u16],
+    own: &[u64; 64],
+    task: Task,
+    picked: [u16; 7],
+    run: Run,
+) -> Run
+    ensures { λ r. ⌜ Tried task (now (own .entry)) picked run
+        (slices (now (symbols .entry)) (now (graphs .entry)) (now (productions .entry)) (now (kids .entry))) r
+        (slices (now (symbols .exit)) (now (graphs .exit)) (now (productions .exit)) (now (kids .exit))) ⌝ }
+{
+    let room = room_of(symbols.len(), graphs.len(), productions.len(), kids.len());
+    if !fitting(room, task, picked, run) {
+        return run;
+    }
+    let verdict = judge(symbols, graphs, own, task, picked, run);
+    let left = run.left;
+    let stored = run.stored;
+    match verdict {
+        Verdict::Steps => stopped(Answer::OutOfSteps, [0u16; 7], left, stored),
+        Verdict::Circle => stopped(Answer::Circular(task.number), picked, left - 1, stored),
+        Verdict::Known => going_on(left - 1, stored),
+        Verdict::Full => stopped(Answer::OutOfRoom, [0u16; 7], left - 1, stored),
+        Verdict::New(graph) => {
+            symbols[stored] = task.symbol;
+            graphs[stored] = graph;
+            productions[stored] = task.number;
+            put_row(kids, 7 * stored, picked);
+            going_on(left - 1, stored + 1)
+        }
+    }
+}
