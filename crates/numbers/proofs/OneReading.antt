@@ -7,6 +7,10 @@ use Rattle.numbers.proofs.two_at.Kinds as two-at-kinds
 use Rattle.numbers.proofs.two_at.Reads as two-at-reads
 use Rattle.numbers.proofs.four_at.Kinds as four-at-kinds
 use Rattle.numbers.proofs.four_at.Reads as four-at-reads
+use Rattle.numbers.proofs.wide.Kinds as wide-kinds
+use Rattle.numbers.proofs.wide.Reads as wide-reads
+use Rattle.numbers.proofs.smaller.Kinds as smaller-kinds
+use Rattle.numbers.proofs.smaller.Reads as smaller-reads
 
 pub one-reading-byte-at : OneResult 1 byte-at-kinds.ps byte-at-kinds.r byte-at-reads.Post
 one-reading-byte-at κs a x y s t p q = p ∙ sym q
@@ -16,3 +20,9 @@ one-reading-two-at κs a x y s t p q = p ∙ sym q
 
 pub one-reading-four-at : OneResult 1 four-at-kinds.ps four-at-kinds.r four-at-reads.Post
 one-reading-four-at κs a x y s t p q = p ∙ sym q
+
+pub one-reading-wide : OneResult 0 wide-kinds.ps wide-kinds.r wide-reads.Post
+one-reading-wide κs a x y s t p q = p ∙ sym q
+
+pub one-reading-smaller : OneResult 0 smaller-kinds.ps smaller-kinds.r smaller-reads.Post
+one-reading-smaller κs a x y s t p q = p ∙ sym q

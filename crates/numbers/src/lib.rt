@@ -1,5 +1,6 @@
 // Bits, little-endian numbers, and laws on lists that several crates cite.
 ghost use mathlib.Core.Path.{_≡_};
+ghost use Prim.Native.Nat.{min};
 ghost use lib.ListN.{getD};
 ghost use Rattle.numbers.specs.Number.{le2, le4};
 
@@ -28,4 +29,17 @@ pub fn four_at(b: &[u8], i: usize) -> u32
         return 0;
     }
     two_at(b, i) as u32 + 65536 * (two_at(b, i + 2) as u32)
+}
+
+// A number of 16 bits as an index. Of an element of an array only a function knows that it has 16 bits.
+pub fn wide(x: u16) -> usize
+    ensures { λ r. ⌜ r ≡ x ⌝ }
+{
+    x as usize
+}
+
+pub fn smaller(a: usize, b: usize) -> usize
+    ensures { λ r. ⌜ r ≡ min a b ⌝ }
+{
+    if a <= b { a } else { b }
 }

@@ -30,12 +30,6 @@ use rules::Report;
 use steps::Run;
 use steps::Task;
 
-fn wide(x: u16) -> usize
-    ensures { λ r. ⌜ r ≡ x ⌝ }
-{
-    x as usize
-}
-
 fn put(picked: [u16; 7], at: usize, entry: u16) -> [u16; 7]
     requires { ⌜ at < 7 ⌝ }
     ensures { λ r. ⌜ r ≡ set picked at entry ⌝ }
@@ -139,7 +133,7 @@ fn task_of(table: &[u8], number: usize, room: usize, first: usize) -> Task
 {
     let production = tables::production_of(table, number);
     let rights = production.slots;
-    let count = wide(production.n);
+    let count = numbers::wide(production.n);
     Task {
         number: number as u16,
         symbol: production.left,
@@ -307,7 +301,7 @@ pub fn test(
     }
     let room = steps::room_of(symbols.len(), graphs.len(), productions.len(), kids.len());
     let header = tables::header_of(table);
-    let count = wide(header.productions);
+    let count = numbers::wide(header.productions);
     passes(
         table,
         count,

@@ -11,18 +11,12 @@ ghost use Rattle.print.specs.Texts.{kidsIn, entryText, Placed, enough, P
 use rules::Answer;
 use rules::Report;
 
-fn wide(x: u16) -> usize
-    ensures { λ r. ⌜ r ≡ x ⌝ }
-{
-    x as usize
-}
-
 // How many kids the trees of a production have.
 fn kids_in(table: &[u8], p: u16) -> usize
     ensures { λ r. ⌜ r ≡ kidsIn (now (table .entry)) p ⌝ }
 {
-    let production = tables::production_of(table, wide(p));
-    wide(production.n)
+    let production = tables::production_of(table, numbers::wide(p));
+    numbers::wide(production.n)
 }
 
 // The seven slots from `at` on.
@@ -103,12 +97,6 @@ fn root_line(buf: &mut [u8], at: usize, table: &[u8], p: u16, root: [u16; 7]) ->
     lines::put_root(buf, at, p, root, kids_in(table, p))
 }
 
-fn smaller(a: usize, b: usize) -> usize
-    ensures { λ r. ⌜ r ≡ min a b ⌝ }
-{
-    if a <= b { a } else { b }
-}
-
 // Whether the slices have room for the entries, and the buffer 128 bytes for the line of each and for two more.
 fn is_enough(
     entries: usize,
@@ -121,10 +109,7 @@ fn is_enough(
     requires { ⌜ entries < 65536 ⌝ }
     ensures { λ r. ⌜ r ≡ both (leb entries (min 4096 (min symbols (min graphs (min productions (kids / 7)))))) (leb (128 * (entries + 2)) bytes) ⌝ }
 {
-    let room = smaller(
-        4096,
-        smaller(symbols, smaller(graphs, smaller(productions, kids / 7))),
-    );
+    let room = steps::room_of(symbols, graphs, productions, kids);
     if room < entries {
         return false;
     }
@@ -155,7 +140,7 @@ fn rest_lines(
     if let Answer::Refused(_) = answer {
         return at;
     }
-    let count = wide(report.entries);
+    let count = numbers::wide(report.entries);
     let end = entry_lines(buf, at, table, count, symbols, graphs, productions, kids);
     let Answer::Circular(p) = answer else {
         return end;
@@ -181,7 +166,7 @@ pub fn report_text(
         (enough report (slices (now (symbols .entry)) (now (graphs .entry)) (now (productions .entry)) (now (kids .entry))) (now (buf .entry)))
         (now (buf .entry)) (now (buf .exit)) r ⌝ }
 {
-    let entries = wide(report.entries);
+    let entries = numbers::wide(report.entries);
     if !is_enough(
         entries,
         buf.len(),

@@ -10,12 +10,6 @@ ghost use Rattle.records.specs.Records.{zeros, ranOf, Tested};
 use rules::Entry;
 use rules::Report;
 
-fn wide(x: u16) -> usize
-    ensures { λ r. ⌜ r ≡ x ⌝ }
-{
-    x as usize
-}
-
 // The seven slots of the entry at i.
 fn kids_of(kids: &[u16], i: usize) -> [u16; 7]
     requires { ⌜ 7 * i + 7 ≤ length (now kids) ⌝ }
@@ -94,19 +88,13 @@ fn gather(
         (roomOf (slices (now (symbols .entry)) (now (graphs .entry)) (now (productions .entry)) (now (kids .entry))))) ⌝ }
 {
     let report = passes::test(table, limit, symbols, graphs, productions, kids);
-    let stored = wide(report.entries);
+    let stored = numbers::wide(report.entries);
     let rows = rows_of(symbols, graphs, productions, kids, stored);
     Ran {
         report,
         stored,
         rows,
     }
-}
-
-fn smaller(a: usize, b: usize) -> usize
-    ensures { λ r. ⌜ r ≡ min a b ⌝ }
-{
-    if a <= b { a } else { b }
 }
 
 // The test over slices of its own, with room for `room` entries and for 4,096 at most.
@@ -117,7 +105,7 @@ fn run(table: &[u8], limit: u32, room: usize) -> Ran
     let mut graphs = [0u64; 4096];
     let mut productions = [0u16; 4096];
     let mut kids = [0u16; 28672];
-    let most = smaller(4096, room);
+    let most = numbers::smaller(4096, room);
     let slots = 7 * most;
     gather(
         table,

@@ -55,25 +55,16 @@ pub enum Verdict {
     New(u64),
 }
 
-fn wide(x: u16) -> usize
-    ensures { λ r. ⌜ r ≡ x ⌝ }
-{
-    x as usize
-}
-
-fn smaller(a: usize, b: usize) -> usize
-    ensures { λ r. ⌜ r ≡ min a b ⌝ }
-{
-    if a <= b { a } else { b }
-}
-
 // How many entries the slices can hold, seven kids each, and at most 4,096.
 pub fn room_of(symbols: usize, graphs: usize, productions: usize, kids: usize) -> usize
     ensures { λ r. ⌜ r ≡ min 4096 (min symbols (min graphs (min productions (kids / 7)))) ⌝ }
 {
-    smaller(
+    numbers::smaller(
         4096,
-        smaller(symbols, smaller(graphs, smaller(productions, kids / 7))),
+        numbers::smaller(
+            symbols,
+            numbers::smaller(graphs, numbers::smaller(productions, kids / 7)),
+        ),
     )
 }
 
@@ -85,7 +76,7 @@ fn compound(graphs: &[u64], rows: &mut [u64; 64], task: Task, picked: [u16; 7])
     let count = task.count;
     let mut k = 0;
     while k < count {
-        let kid = wide(picked[k]);
+        let kid = numbers::wide(picked[k]);
         let pairs = graphs[kid];
         k += 1;
         graph::place(rows, pairs, k);
@@ -161,7 +152,7 @@ fn all_stored(picked: [u16; 7], count: usize, stored: usize) -> bool
     let mut k = count;
     while 0 < k {
         k -= 1;
-        let kid = wide(picked[k]);
+        let kid = numbers::wide(picked[k]);
         if stored <= kid {
             return false;
         }

@@ -15,16 +15,6 @@ fn fill(buf: &mut [u8]) -> bool {
     io::read_full(STDIN_FILENO, buf) == buf.len()
 }
 
-fn wide(x: u16) -> usize {
-    x as usize
-}
-
-fn smaller(a: usize, b: usize) -> usize
-    ensures { λ r. ⌜ r ≤ b ⌝ }
-{
-    if a < b { a } else { b }
-}
-
 fn table_buffer() -> [u8; 65535]
     ensures { λ r. ⌜ 65535 ≡ length r ⌝ }
 {
@@ -68,9 +58,9 @@ fn root_line(text: &mut [u8], at: usize, table: &[u8], report: Report) -> usize 
     let Answer::Circular(p) = answer else {
         return at;
     };
-    let production = tables::production_of(table, wide(p));
+    let production = tables::production_of(table, numbers::wide(p));
     let root = report.root;
-    lines::put_root(text, at, p, root, wide(production.n))
+    lines::put_root(text, at, p, root, numbers::wide(production.n))
 }
 
 // The first line, and the root's.
@@ -123,7 +113,7 @@ fn one_run(table: &[u8]) -> bool {
         return false;
     }
     let limit = numbers::four_at(&asked, 0);
-    let room = smaller(wide(numbers::two_at(&asked, 4)), 4096);
+    let room = numbers::smaller(numbers::wide(numbers::two_at(&asked, 4)), 4096);
     let mut symbols = numbers();
     let mut graphs = graphs();
     let mut productions = numbers();

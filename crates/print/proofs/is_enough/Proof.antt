@@ -17,23 +17,11 @@ more : (entries room is : ℕ) (b : Bool) → entries ≤ room → room ≡ is �
 unfolding both
 more entries room is b h e = rw (← e, le-leb entries room h)
 
-smaller-requires : tie.Need-smaller-requires
-smaller-requires c κs = search needs
-
-smaller-requires-2 : tie.Need-smaller-requires-2
-smaller-requires-2 c κs = search needs
-
-smaller-requires-3 : tie.Need-smaller-requires-3
-smaller-requires-3 c κs = search needs
-
-smaller-requires-4 : tie.Need-smaller-requires-4
-smaller-requires-4 c κs = search needs
+room-of-requires : tie.Need-room-of-requires
+room-of-requires c κs = search needs
 
 returns : tie.Need-returns
-returns c =
-    let r = c .before in
-    less _ _ _ _ (c .if1 .taken)
-    (cc (r .smaller4 .ensures, r .before .smaller3 .ensures, r .before .before .smaller2 .ensures, r .before .before .before .smaller .ensures))
+returns c = less _ _ _ _ (c .if1 .taken) (c .before .room-of .ensures)
 
 add-result : tie.Need-add-result
 add-result c = search needs
@@ -42,19 +30,13 @@ mul-result : tie.Need-mul-result
 mul-result c = search needs
 
 returns-2 : tie.Need-returns-2
-returns-2 c =
-    let r = c .before in
-    more _ _ _ _ (c .if1 .left)
-    (cc (r .smaller4 .ensures, r .before .smaller3 .ensures, r .before .before .smaller2 .ensures, r .before .before .before .smaller .ensures))
+returns-2 c = more _ _ _ _ (c .if1 .left) (c .before .room-of .ensures)
 
 pub is-enough-spec : {M : Type 1} → statement M
 is-enough-spec =
     tie.close
     (tie.spec
-    smaller-requires
-    smaller-requires-2
-    smaller-requires-3
-    smaller-requires-4
+    room-of-requires
     returns
     add-result
     mul-result
