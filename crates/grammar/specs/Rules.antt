@@ -10,7 +10,7 @@ use Rattle.grammar.specs.declared.Production.{Production}
 use Rattle.grammar.specs.declared.Node.{Node}
 use Rattle.grammar.specs.declared.Edge.{Edge}
 use Rattle.grammar.specs.Grammar.{Grammar, symbol, production, rights, symbolAt}
-use Rattle.grammar.specs.Table.{N, P, E, startOf, atSymbols, atProductions, atEdges, total, edgeIn, grammarOf}
+use Rattle.grammar.specs.Table.{N, P, E, startOf, atSymbols, atProductions, atEdges, total, grammarOf}
 
 -- 1, header: there are 24 bytes
 abbrev pub HasHeader : List ℕ → Type 0

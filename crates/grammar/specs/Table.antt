@@ -2,7 +2,7 @@
 use mathlib.Core.List.{List, map}
 use Prim.Native.Nat.{ℕ, _+_, _*_, _/_}
 use lib.ListN.{length, getD}
-use Rattle.numbers.specs.Number.{le2, le4}
+use Rattle.numbers.specs.Number.{le2}
 use Rattle.numbers.specs.Lists.{upFrom}
 use Rattle.grammar.specs.declared.Symbol.{Symbol}
 use Rattle.grammar.specs.declared.Production.{Production}

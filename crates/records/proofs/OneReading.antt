@@ -10,7 +10,7 @@ use ghost.Atoms.{Atoms}
 use contract.Lifetimes.{Lfts}
 use contract.Monad.{Fun, fact}
 use denote.Ref.{now}
-use denote.Triple.Clauses.{Ended, Clauses, AtExit}
+use denote.Triple.Clauses.{AtExit}
 use denote.Triple.Entry.{Args, Res}
 use Rattle.rows.proofs.OneReading.{both}
 use Rattle.records.proofs.test as test

@@ -11,7 +11,7 @@ use ghost.Atoms.{Atoms}
 use contract.Lifetimes.{Lfts}
 use contract.Monad.{Fun, fact, fact-mono}
 use denote.Ref.{now}
-use denote.Triple.Clauses.{Ended, Clauses, AtExit}
+use denote.Triple.Clauses.{AtExit}
 use denote.Triple.Entry.{Args, Res}
 use denote.Triple.Walked.{needs}
 use Rattle.rows.proofs.entry_at as entry-at

@@ -2,7 +2,7 @@
 use mathlib.Core.Bool.{Bool, true, false, _||_, cond}
 use mathlib.Core.List.{List, [], _∷_, _++_, map}
 use Prim.Native.Nat.{ℕ, zero, suc, _-_}
-use lib.Dec.{leb, ltb, eqb}
+use lib.Dec.{leb, eqb}
 use lib.ListN.{length, getD, replicate}
 use Rattle.numbers.specs.Lists.{both, upFrom, keep}
 use Rattle.rules.specs.declared.Answer.{Answer}

@@ -1,7 +1,6 @@
 -- What was read so far is the buffer's. The measure is what is left of the buffer. Assumes nothing.
 use mathlib.Core.Path.{_≡_}
 use Prim.Native.Nat.{_-_, _≤_}
-use native.Mathlib.Omega.{arith}
 use borrow.Author.Needs.{needs}
 use lib.ListN.{length}
 use Rattle.circ.proofs.read_input.Statement.{statement}

@@ -4,7 +4,7 @@ use native.Mathlib.Omega.{arith}
 use borrow.Author.Needs.{needs}
 use Rattle.passes.specs.Slices.{slices, roomOf}
 use Rattle.print.proofs.Stored.{always-printed}
-use Rattle.circ.specs.Whole.{reportOf, Reported}
+use Rattle.circ.specs.Whole.{reportOf}
 use Rattle.circ.proofs.report.Statement.{statement}
 use Rattle.circ.proofs.report.Tie as tie
 
