@@ -23,6 +23,7 @@ use Rattle.steps.specs.Slices.{put, roomOf}
 use Rattle.steps.specs.Step.{goesOn, closedOver, graphsOf, seenIn, verdict, judged, runAt, slicesAt, fits, Tried}
 use Rattle.steps.proofs.Judged.{counts, stores, is-left, has-room}
 use Rattle.steps.proofs.Fit.{fits-decides}
+use Rattle.steps.proofs.Trying.{tried-run, tried-slices}
 use Rattle.passes.specs.Follow.{stateOf, ranOf, Follows, Ready, Picked, systemBy}
 use Rattle.passes.proofs.Entries.{length-entries, seen-known, graphs-same, put-stay, put-entries, set-beyond, sets-beyond}
 use Rattle.passes.proofs.Following.{kept-same, going-by}
@@ -180,4 +181,5 @@ module _ (k : Task) (rows : List ℕ) (σ : Slices) (r : Run) (picked : List ℕ
       })
 
   pub follows-tried : (q : Run) (τ : Slices) → Tried k rows picked r σ q τ → Follows (k .room) rule σ r τ q
-  follows-tried q τ t = rw (t .run it-fits, t .slices it-fits) (follows-at now refl)
+  follows-tried q τ t =
+      rw (tried-run k rows picked r σ it-fits q τ t, tried-slices k rows picked r σ it-fits q τ t) (follows-at now refl)

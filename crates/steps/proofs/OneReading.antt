@@ -1,14 +1,13 @@
 -- The promise of each public function has one reading. Assumes nothing.
-use mathlib.Core.Path.{_≡_, refl, sym, _∙_}
-use mathlib.Core.Bool.{Bool, true, false}
+use mathlib.Core.Path.{_≡_, sym, _∙_}
 use mathlib.Core.List.{List}
 use Prim.Native.Nat.{ℕ}
 use denote.Ref.{now}
 use Rattle.numbers.proofs.Reading.{OneOutcome, OneResult}
 use Rattle.steps.specs.declared.Run.{Run}
 use Rattle.steps.specs.declared.Task.{Task}
-use Rattle.steps.specs.Slices.{Slices, slices, roomOf}
-use Rattle.steps.specs.Step.{fits, Tried}
+use Rattle.steps.specs.Slices.{Slices, slices}
+use Rattle.steps.specs.Step.{Tried}
 use Rattle.steps.proofs.room_of.Kinds as room-of-kinds
 use Rattle.steps.proofs.room_of.Reads as room-of-reads
 use Rattle.steps.proofs.try_one.Kinds as try-one-kinds
@@ -22,11 +21,7 @@ Back = Run × Slices
 
 tried-once : {k : Task} {rows picked : List ℕ} {r q p : Run} {σ τ υ : Slices}
     → Tried k rows picked r σ q τ → Tried k rows picked r σ p υ → _≡_ {A = Back} (q, τ) (p, υ)
-tried-once {k} {rows} {picked} {r} {q} {p} {σ} {τ} {υ} a b = by (fits (roomOf σ) k picked r) refl
-  where
-    by : (f : Bool) → fits (roomOf σ) k picked r ≡ f → _≡_ {A = Back} (q, τ) (p, υ)
-    by true h = λ i. ((a .run h ∙ sym (b .run h)) i, (a .slices h ∙ sym (b .slices h)) i)
-    by false h = λ i. ((a .unfit h .0 ∙ sym (b .unfit h .0)) i, (a .unfit h .1 ∙ sym (b .unfit h .1)) i)
+tried-once a b i = ((a .run ∙ sym (b .run)) i, (a .slices ∙ sym (b .slices)) i)
 
 -- the parameters at exit: symbols, graphs, productions, kids, own, task, picked, run
 pub one-reading-try-one :

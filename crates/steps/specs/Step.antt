@@ -1,5 +1,5 @@
 -- The six steps for one combination over the slices, where the closures that are left are counted down. Assumes nothing.
-use mathlib.Core.Bool.{Bool, true, false, _||_}
+use mathlib.Core.Bool.{Bool, true, false, _||_, cond}
 use mathlib.Core.List.{List, map}
 use mathlib.Core.Path.{_≡_}
 use Prim.Native.Nat.{ℕ, zero, suc, _+_, _-_, _*_, _≤_, _<_}
@@ -90,6 +90,5 @@ fits room k picked r =
 
 -- From r and σ to q and τ the combination is tried. Where it does not fit nothing is done.
 pub record Tried (k : Task) (rows picked : List ℕ) (r : Run) (σ : Slices) (q : Run) (τ : Slices) : Type 0 where
-  pub run : fits (roomOf σ) k picked r ≡ true → q ≡ runAt (judged k rows (σ .symbols) (σ .graphs) r picked) k picked r
-  pub slices : fits (roomOf σ) k picked r ≡ true → τ ≡ slicesAt (judged k rows (σ .symbols) (σ .graphs) r picked) k picked r σ
-  pub unfit : fits (roomOf σ) k picked r ≡ false → (q ≡ r) × (τ ≡ σ)
+  pub run : q ≡ cond (fits (roomOf σ) k picked r) (runAt (judged k rows (σ .symbols) (σ .graphs) r picked) k picked r) r
+  pub slices : τ ≡ cond (fits (roomOf σ) k picked r) (slicesAt (judged k rows (σ .symbols) (σ .graphs) r picked) k picked r σ) σ
