@@ -5,7 +5,7 @@ use Prim.Native.Nat.{ℕ, _≤_}
 use lib.ListN.{length}
 use Rattle.numbers.specs.Lists.{written}
 use Rattle.rules.specs.Test.{test}
-use Rattle.lines.specs.Lines.{printed}
+use Rattle.texts.specs.Lines.{printed}
 use Rattle.print.specs.Texts.{kidsIn}
 use Rattle.circ.specs.declared.Input.{Input}
 use Rattle.circ.specs.declared.Input.the-variants.{Bytes, Unread}

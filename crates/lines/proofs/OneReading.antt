@@ -4,7 +4,7 @@ use mathlib.Core.List.{List}
 use Prim.Native.Nat.{ℕ}
 use denote.Ref.{now}
 use Rattle.numbers.proofs.Reading.{OneOutcome}
-use Rattle.lines.specs.Lines.{Written}
+use Rattle.lines.specs.Buffer.{Written}
 use Rattle.lines.proofs.put_first.Kinds as put-first-kinds
 use Rattle.lines.proofs.put_first.Reads as put-first-reads
 use Rattle.lines.proofs.put_entry.Kinds as put-entry-kinds

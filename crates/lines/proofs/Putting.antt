@@ -9,7 +9,7 @@ use borrow.Author.Tests.{leb-true, le-leb, lt-leb}
 use lib.ListN.{length, take, drop, length-append, length-drop}
 use lib.Seq.{length-take-le, take-at, drop-append-add, drop-drop}
 use Rattle.lines.specs.declared.Line.{Line}
-use Rattle.lines.specs.Lines.{fits, put, next, Written}
+use Rattle.lines.specs.Buffer.{fits, put, next, Written}
 use Rattle.lines.specs.Pieces.{text, Holds}
 
 module _ (line : List ℕ) (at : ℕ) (old : List ℕ) where

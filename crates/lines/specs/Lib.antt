@@ -1,3 +1,3 @@
--- The lines that are printed, and how the code makes one.
-pub mod Lines
+-- A line in a lent buffer, and how the code makes one.
+pub mod Buffer
 pub mod Pieces

@@ -15,7 +15,7 @@ use Rattle.rules.specs.declared.Answer.the-variants.{Refused}
 use Rattle.rules.specs.Passes.{outcome, noRoot, empty}
 use Rattle.rules.specs.Test.{test}
 use Rattle.passes.proofs.Testing.{test-refusal}
-use Rattle.lines.specs.Lines.{rest, printed}
+use Rattle.texts.specs.Lines.{rest, printed}
 use Rattle.print.specs.Texts.{kidsIn}
 
 same-counts : (n : ℕ) (bs : List ℕ) → 8 ≤ n → countsOk (take n bs) ≡ countsOk bs

@@ -11,7 +11,8 @@ use lib.Seq.{length-take-le}
 use Rattle.numbers.proofs.Decides.{both-decides, le-decides}
 use Rattle.rules.specs.declared.Report.{Report}
 use Rattle.rules.specs.declared.Entry.{Entry}
-use Rattle.lines.specs.Lines.{entryLines, Written}
+use Rattle.texts.specs.Lines.{entryLines}
+use Rattle.lines.specs.Buffer.{Written}
 use Rattle.lines.proofs.Putting.{fitting, fitted, lines}
 use Rattle.passes.specs.Slices.{Slices, roomOf}
 use Rattle.passes.specs.Follow.{entryAt, entriesTo}

@@ -7,7 +7,7 @@ use denote.Enum.Declared.{tagOf}
 use Rattle.rules.specs.declared.Answer.{Answer}
 use Rattle.rules.specs.declared.Answer.the-variants.{Noncircular, Circular, Refused, OutOfSteps, OutOfRoom}
 use Rattle.rules.proofs.Answer.{the-type}
-use Rattle.lines.specs.Lines.{rest}
+use Rattle.texts.specs.Lines.{rest}
 
 -- neither refused nor circular
 pub entries-only : (a : Answer) (entries : List ℕ) (root : ℕ → List ℕ) → OneOf (0 ∷ 1 ∷ 3 ∷ 4 ∷ []) (tagOf the-type a)

@@ -11,7 +11,7 @@ use Rattle.rules.specs.declared.Report.{Report}
 use Rattle.rules.specs.Passes.{Outcome}
 use Rattle.rules.specs.Test.{test}
 use Rattle.rules.proofs.Stored.{Counted, counted-test}
-use Rattle.lines.specs.Lines.{printed}
+use Rattle.texts.specs.Lines.{printed}
 use Rattle.passes.specs.Slices.{Slices, roomOf, Tells, Tested}
 use Rattle.passes.specs.Follow.{entriesTo}
 use Rattle.passes.proofs.Told.{entries-told}

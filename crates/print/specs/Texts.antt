@@ -12,7 +12,8 @@ use Rattle.rules.specs.declared.Report.{Report}
 use Rattle.rules.specs.declared.Entry.{Entry}
 use Rattle.rules.specs.Passes.{Outcome}
 use Rattle.rules.specs.Test.{test}
-use Rattle.lines.specs.Lines.{entryLine, printed, Written}
+use Rattle.texts.specs.Lines.{entryLine, printed}
+use Rattle.lines.specs.Buffer.{Written}
 use Rattle.passes.specs.Slices.{Slices, roomOf, Tells}
 use Rattle.passes.specs.Follow.{entriesTo}
 

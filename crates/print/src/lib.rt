@@ -4,7 +4,7 @@ ghost use Prim.Native.Nat.{_+_, _*_, _/_, _≤_, _<_, min};
 ghost use lib.Dec.{leb};
 ghost use lib.ListN.{length, take, drop};
 ghost use Rattle.numbers.specs.Lists.{both};
-ghost use Rattle.lines.specs.Lines.{firstLine, rootLine, entryLines, rest, printed};
+ghost use Rattle.texts.specs.Lines.{firstLine, rootLine, entryLines, rest, printed};
 ghost use Rattle.passes.specs.Slices.{slices, roomOf};
 ghost use Rattle.passes.specs.Follow.{entryAt, entriesTo};
 ghost use Rattle.print.specs.Texts.{kidsIn, entryText, Placed, enough, Printed, TestPrinted, reported};

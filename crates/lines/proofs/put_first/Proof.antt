@@ -1,5 +1,5 @@
 -- The line is made whole and then put. Assumes nothing.
-use Rattle.lines.specs.Lines.{firstLine}
+use Rattle.texts.specs.Lines.{firstLine}
 use Rattle.lines.proofs.Putting.{of-line}
 use borrow.Author.Needs.{needs}
 use Rattle.lines.proofs.put_first.Statement.{statement}

@@ -1,6 +1,6 @@
 -- The pieces in their order. Assumes nothing.
 use native.Mathlib.Omega.{arith}
-use Rattle.lines.specs.Lines.{rootLine}
+use Rattle.texts.specs.Lines.{rootLine}
 use Rattle.lines.proofs.Pieces.{then, whole}
 use borrow.Author.Needs.{needs}
 use Rattle.lines.proofs.root_line.Statement.{statement}

@@ -4,11 +4,11 @@ use Prim.Native.Nat.{_*_, _-_, _≤_, min}
 use native.Mathlib.Omega.{arith}
 use lib.ListN.{length, take}
 use borrow.Author.Needs.{needs}
-use Rattle.lines.specs.Lines.{spaced}
+use Rattle.texts.specs.Lines.{spaced}
 use Rattle.lines.specs.Pieces.{Follows}
 use Rattle.lines.proofs.Pieces.{nothing, then, within}
 use Rattle.numbers.proofs.Parts.{take-clipped}
-use Rattle.lines.proofs.Spaced.{one-more}
+use Rattle.texts.proofs.Spaced.{one-more}
 use Rattle.lines.proofs.with_kids.Statement.{statement}
 use Rattle.lines.proofs.with_kids.Tie as tie
 

@@ -1,7 +1,7 @@
 -- 64 bits hold no number of 21 digits. Assumes nothing.
 use mathlib.Core.Path.{refl}
 use native.Mathlib.Omega.{arith}
-use Rattle.lines.proofs.Decimal.{at-most}
+use Rattle.texts.proofs.Decimal.{at-most}
 use Rattle.lines.proofs.Pieces.{within}
 use Rattle.lines.proofs.with_number.Statement.{statement}
 use Rattle.lines.proofs.with_number.Tie as tie

@@ -6,8 +6,8 @@ use native.Mathlib.Omega.{arith}
 use lib.ListN.{length, take}
 use borrow.Author.Needs.{needs}
 use Rattle.io.specs.Digits.{digits}
-use Rattle.lines.specs.Lines.{places, decimal}
-use Rattle.lines.proofs.Decimal.{fewest, length-decimal}
+use Rattle.texts.specs.Lines.{places, decimal}
+use Rattle.texts.proofs.Decimal.{fewest, length-decimal}
 use Rattle.lines.proofs.Pieces.{then, within}
 use Rattle.lines.proofs.with_places.Statement.{statement}
 use Rattle.lines.proofs.with_places.Tie as tie

@@ -1,7 +1,7 @@
 -- 16 bits hold no number of six digits. Assumes nothing.
 use mathlib.Core.Path.{refl}
 use native.Mathlib.Omega.{arith}
-use Rattle.lines.proofs.Decimal.{at-most}
+use Rattle.texts.proofs.Decimal.{at-most}
 use Rattle.lines.proofs.Pieces.{within}
 use Rattle.lines.proofs.with_short.Statement.{statement}
 use Rattle.lines.proofs.with_short.Tie as tie

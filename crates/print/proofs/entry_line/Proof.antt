@@ -4,7 +4,7 @@ use borrow.Author.Needs.{needs}
 use mir.Syntax.{w16}
 use mir.Val.{Fits}
 use lib.ListN.{getD}
-use Rattle.lines.proofs.Short.{entry-short}
+use Rattle.texts.proofs.Short.{entry-short}
 use Rattle.passes.specs.Follow.{entryAt}
 use Rattle.print.proofs.entry_line.Statement.{statement}
 use Rattle.print.proofs.entry_line.Tie as tie

@@ -3,7 +3,7 @@ use mathlib.Core.Path.{_≡_, refl}
 use Prim.Native.Nat.{_*_, _-_, _≤_}
 use native.Mathlib.Omega.{arith}
 use borrow.Author.Needs.{needs}
-use Rattle.lines.specs.Lines.{entryLines}
+use Rattle.texts.specs.Lines.{entryLines}
 use Rattle.passes.specs.Slices.{slices}
 use Rattle.passes.specs.Follow.{entriesTo}
 use Rattle.print.specs.Texts.{kidsIn, Placed}

@@ -1,5 +1,5 @@
 use borrow.Author.Needs.{needs}
-use Rattle.lines.proofs.Short.{first-short}
+use Rattle.texts.proofs.Short.{first-short}
 use Rattle.print.proofs.first_line.Statement.{statement}
 use Rattle.print.proofs.first_line.Tie as tie
 use Rattle.print.proofs.first_line.Reads as reads

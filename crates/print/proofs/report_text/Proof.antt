@@ -3,7 +3,7 @@ use mathlib.Core.Path.{sym, _∙_}
 use native.Mathlib.Omega.{arith}
 use borrow.Author.Needs.{needs}
 use borrow.Author.Tests.{not-true, not-false}
-use Rattle.lines.specs.Lines.{printed}
+use Rattle.texts.specs.Lines.{printed}
 use Rattle.passes.specs.Slices.{slices}
 use Rattle.print.proofs.Placing.{then, placed-length, roomy, not-printed, is-printed}
 use Rattle.print.proofs.report_text.Statement.{statement}

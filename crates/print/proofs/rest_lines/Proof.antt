@@ -2,7 +2,7 @@
 use mathlib.Core.Path.{refl}
 use native.Mathlib.Omega.{arith}
 use borrow.Author.Needs.{needs}
-use Rattle.lines.specs.Lines.{rest}
+use Rattle.texts.specs.Lines.{rest}
 use Rattle.print.proofs.Placing.{nothing, within, then}
 use Rattle.print.proofs.Resting.{entries-only}
 use Rattle.print.proofs.rest_lines.Statement.{statement}

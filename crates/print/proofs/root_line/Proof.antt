@@ -4,7 +4,7 @@ use borrow.Author.Needs.{needs}
 use mir.Syntax.{w16}
 use mir.Val.{Fits}
 use lib.ListN.{getD}
-use Rattle.lines.proofs.Short.{root-short}
+use Rattle.texts.proofs.Short.{root-short}
 use Rattle.print.specs.Texts.{kidsIn}
 use Rattle.print.proofs.root_line.Statement.{statement}
 use Rattle.print.proofs.root_line.Tie as tie

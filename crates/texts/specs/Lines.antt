@@ -1,12 +1,11 @@
 -- The lines that `circ` prints, as bytes. Assumes nothing.
-use mathlib.Core.Path.{_≡_}
-use mathlib.Core.Bool.{Bool, true, false, cond}
+use mathlib.Core.Bool.{Bool, true, false}
 use mathlib.Core.List.{List, [], _∷_, _++_}
 use Prim.Native.Char.{code}
 use Prim.Native.String.{String, [] as []ˢ, _∷_ as _∷ˢ_}
-use Prim.Native.Nat.{ℕ, zero, suc, _+_, _/_}
-use lib.Dec.{leb, ltb}
-use lib.ListN.{length, take, drop}
+use Prim.Native.Nat.{ℕ, zero, suc, _/_}
+use lib.Dec.{ltb}
+use lib.ListN.{take}
 use Rattle.io.specs.Digits.{digits}
 use Rattle.rules.specs.declared.Answer.{Answer}
 use Rattle.rules.specs.declared.Answer.the-variants.{Noncircular, Circular, Refused, OutOfSteps, OutOfRoom}
@@ -99,24 +98,6 @@ unfoldable pub printed : (ℕ → ℕ) → Outcome → List ℕ
 printed n o =
     firstLine (o .report)
     ++ rest (o .report .answer) (entryLines n 0 (o .entries)) (λ p. rootLine p (take (n p) (o .report .root)))
-
--- ---- a line in a lent buffer
-
-abbrev pub fits : List ℕ → ℕ → List ℕ → Bool
-fits line at old = leb (at + length line) (length old)
-
--- the buffer with the line from `at` on where it fits, else as before
-unfoldable pub put : List ℕ → ℕ → List ℕ → List ℕ
-put line at old = cond (fits line at old) (take at old ++ line ++ drop (at + length line) old) old
-
--- the place after the line where it fits, else `at`
-unfoldable pub next : List ℕ → ℕ → List ℕ → ℕ
-next line at old = cond (fits line at old) (at + length line) at
-
--- what a function that puts a line promises of the buffer and of its result
-pub record Written (line : List ℕ) (at : ℕ) (old new : List ℕ) (r : ℕ) : Type 0 where
-  pub buffer : new ≡ put line at old
-  pub place : r ≡ next line at old
 
 -- to name this on an `unfolding` line is to open every rule
 unfoldable pub shown : Unit {0}

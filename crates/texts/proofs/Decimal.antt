@@ -8,7 +8,7 @@ use native.Mathlib.Omega.{arith}
 use borrow.Author.Tests.{lt-ltb, le-ltb}
 use lib.ListN.{length, length-append}
 use Rattle.io.specs.Digits.{digits, Fewest}
-use Rattle.lines.specs.Lines.{placesBy, places, decimal}
+use Rattle.texts.specs.Lines.{placesBy, places, decimal}
 
 one-place : (fuel n : ℕ) → n < 10 → placesBy fuel n ≡ 1
 unfolding placesBy

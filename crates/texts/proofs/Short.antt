@@ -7,8 +7,8 @@ use lib.ListN.{length, getD, take, length-append}
 use Rattle.rules.specs.declared.Answer.{Answer}
 use Rattle.rules.specs.declared.Answer.the-variants.{Noncircular, Circular, Refused, OutOfSteps, OutOfRoom}
 use Rattle.rules.specs.declared.Report.{Report}
-use Rattle.lines.specs.Lines.{decimal, counts, answered, firstLine, spaced, entryLine, rootLine}
-use Rattle.lines.proofs.Decimal.{at-most, length-decimal}
+use Rattle.texts.specs.Lines.{decimal, counts, answered, firstLine, spaced, entryLine, rootLine}
+use Rattle.texts.proofs.Decimal.{at-most, length-decimal}
 
 -- at most five digits for 16 bits, and at most twenty for 64
 short : (n : ℕ) → n < 2 ^ 16 → length (decimal n) ≤ 5

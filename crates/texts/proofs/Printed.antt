@@ -8,7 +8,7 @@ use Rattle.rules.specs.declared.Answer.the-variants.{Refused}
 use Rattle.rules.specs.Passes.{Outcome}
 use Rattle.rules.specs.Test.{test, opened}
 use Rattle.rules.specs.Small.{tableA, tableB, tableQ}
-use Rattle.lines.specs.Lines.{ascii, newline, decimal, tagged, firstLine, rest, printed, shown}
+use Rattle.texts.specs.Lines.{ascii, newline, decimal, tagged, firstLine, rest, printed, shown}
 
 -- a refused table prints nothing else
 pub refused-only : (n : ℕ → ℕ) (o : Outcome) (k : ℕ) → o .report .answer ≡ Refused k → printed n o ≡ tagged "refused " k ++ newline
