@@ -101,7 +101,7 @@ pub extern "C" fn circ_test(
 pub extern "C" fn circ_own_rows(run: &[u8], rows: &mut [u64; 64])
     ensures { λ _. ⌜ now (rows .exit) ≡ own 8 (edgesIn (now (run .entry))) (replicate 64 0) ⌝ }
 {
-    let own = graph::own_rows(run);
+    let own = closures::own_rows(run);
     *rows = own;
 }
 
@@ -110,7 +110,7 @@ pub extern "C" fn circ_own_rows(run: &[u8], rows: &mut [u64; 64])
 pub extern "C" fn circ_place(rows: &mut [u64; 64], graph: u64, occurrence: usize)
     ensures { λ _. ⌜ now (rows .exit) ≡ placed 8 occurrence graph (now (rows .entry)) ⌝ }
 {
-    graph::place(rows, graph, occurrence);
+    closures::place(rows, graph, occurrence);
 }
 
 // The closure of the nodes of the first occurrences.
@@ -118,7 +118,7 @@ pub extern "C" fn circ_place(rows: &mut [u64; 64], graph: u64, occurrence: usize
 pub extern "C" fn circ_close(rows: &mut [u64; 64], occurrences: usize)
     ensures { λ _. ⌜ now (rows .exit) ≡ closedFirst (8 * occurrences) (now (rows .entry)) ⌝ }
 {
-    graph::close(rows, occurrences);
+    closures::close(rows, occurrences);
 }
 
 // Whether a node of the first occurrences leads to itself.
@@ -126,7 +126,7 @@ pub extern "C" fn circ_close(rows: &mut [u64; 64], occurrences: usize)
 pub extern "C" fn circ_has_circle(rows: &[u64; 64], occurrences: usize) -> bool
     ensures { λ r. ⌜ r ≡ hasCircle (take (8 * occurrences) (now (rows .entry))) ⌝ }
 {
-    graph::has_circle(rows, occurrences)
+    closures::has_circle(rows, occurrences)
 }
 
 // The pairs among the nodes of the left symbol.
@@ -134,5 +134,5 @@ pub extern "C" fn circ_has_circle(rows: &[u64; 64], occurrences: usize) -> bool
 pub extern "C" fn circ_root_graph(rows: &[u64; 64]) -> u64
     ensures { λ r. ⌜ r ≡ rootGraph 8 (now (rows .entry)) ⌝ }
 {
-    graph::root_graph(rows)
+    closures::root_graph(rows)
 }

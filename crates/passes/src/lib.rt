@@ -150,7 +150,7 @@ fn own_of(table: &[u8], number: usize) -> [u64; 64]
     ensures { λ r. ⌜ r ≡ ownOf (now (table .entry)) number ⌝ }
 {
     let run = tables::run_of(table, number);
-    graph::own_rows(run)
+    closures::own_rows(run)
 }
 
 // One turn. Where a right symbol has no entry it ends at once; else the production's own rows are made, once.

@@ -79,7 +79,7 @@ fn compound(graphs: &[u64], rows: &mut [u64; 64], task: Task, picked: [u16; 7])
         let kid = numbers::wide(picked[k]);
         let pairs = graphs[kid];
         k += 1;
-        graph::place(rows, pairs, k);
+        closures::place(rows, pairs, k);
     }
 }
 
@@ -92,10 +92,10 @@ fn closure(graphs: &[u64], own: &[u64; 64], task: Task, picked: [u16; 7]) -> Clo
     let occurrences = task.count + 1;
     let mut rows = *own;
     compound(graphs, &mut rows, task, picked);
-    graph::close(&mut rows, occurrences);
+    closures::close(&mut rows, occurrences);
     Closed {
-        circle: graph::has_circle(&rows, occurrences),
-        graph: graph::root_graph(&rows),
+        circle: closures::has_circle(&rows, occurrences),
+        graph: closures::root_graph(&rows),
     }
 }
 

@@ -1,7 +1,7 @@
--- `graph::place` meets its contract. Assumes nothing.
+-- `closures::place` meets its contract. Assumes nothing.
 use borrow.Author.Needs.{needs}
-use Rattle.graph.proofs.place.Statement.{statement}
-use Rattle.graph.proofs.place.Tie as tie
+use Rattle.closures.proofs.place.Statement.{statement}
+use Rattle.closures.proofs.place.Tie as tie
 
 place-in-requires : tie.Need-place-in-requires
 place-in-requires c κs = search needs

@@ -1,13 +1,13 @@
--- `graph::add_edge` meets its contract. Assumes nothing.
+-- `closures::add_edge` meets its contract. Assumes nothing.
 use mathlib.Core.Path.{sym, ap, _∙_}
 use Prim.Native.Nat.{ℕ}
 use native.Mathlib.Omega.{arith}
 use borrow.Author.Needs.{needs}
 use Rattle.numbers.proofs.Bits.{power-fits}
 use Rattle.graph.specs.Rows.{joinAt}
 use Rattle.graph.proofs.Turns.{link-there, link-no-target, link-no-source}
-use Rattle.graph.proofs.add_edge.Statement.{statement}
-use Rattle.graph.proofs.add_edge.Tie as tie
+use Rattle.closures.proofs.add_edge.Statement.{statement}
+use Rattle.closures.proofs.add_edge.Tie as tie
 
 mul-rows : tie.Need-mul-rows
 mul-rows c = search needs

@@ -1,7 +1,7 @@
--- `graph::close` meets its contract. Assumes nothing.
+-- `closures::close` meets its contract. Assumes nothing.
 use borrow.Author.Needs.{needs}
-use Rattle.graph.proofs.close.Statement.{statement}
-use Rattle.graph.proofs.close.Tie as tie
+use Rattle.closures.proofs.close.Statement.{statement}
+use Rattle.closures.proofs.close.Tie as tie
 
 close-in-requires : tie.Need-close-in-requires
 close-in-requires c κs = search needs

@@ -1,13 +1,13 @@
--- `graph::joined` meets its contract. Assumes nothing.
+-- `closures::joined` meets its contract. Assumes nothing.
 use mathlib.Core.Path.{_≡_}
 use Prim.Native.Nat.{_/_, _^_}
 use native.Mathlib.Omega.{arith}
 use lib.Bits.{and-mask}
 use borrow.Author.Needs.{needs}
 use Rattle.numbers.specs.Number.{bit}
 use Rattle.graph.specs.Rows.{through}
-use Rattle.graph.proofs.joined.Statement.{statement}
-use Rattle.graph.proofs.joined.Tie as tie
+use Rattle.closures.proofs.joined.Statement.{statement}
+use Rattle.closures.proofs.joined.Tie as tie
 
 shr-if1 : tie.Need-shr-if1
 shr-if1 c = search needs

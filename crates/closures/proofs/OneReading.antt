@@ -2,16 +2,16 @@
 use mathlib.Core.Path.{sym, _∙_}
 use denote.Ref.{now}
 use Rattle.numbers.proofs.Reading.{OneOutcome, OneResult}
-use Rattle.graph.proofs.own_rows.Kinds as own-rows-kinds
-use Rattle.graph.proofs.own_rows.Reads as own-rows-reads
-use Rattle.graph.proofs.place.Kinds as place-kinds
-use Rattle.graph.proofs.place.Reads as place-reads
-use Rattle.graph.proofs.close.Kinds as close-kinds
-use Rattle.graph.proofs.close.Reads as close-reads
-use Rattle.graph.proofs.has_circle.Kinds as has-circle-kinds
-use Rattle.graph.proofs.has_circle.Reads as has-circle-reads
-use Rattle.graph.proofs.root_graph.Kinds as root-graph-kinds
-use Rattle.graph.proofs.root_graph.Reads as root-graph-reads
+use Rattle.closures.proofs.own_rows.Kinds as own-rows-kinds
+use Rattle.closures.proofs.own_rows.Reads as own-rows-reads
+use Rattle.closures.proofs.place.Kinds as place-kinds
+use Rattle.closures.proofs.place.Reads as place-reads
+use Rattle.closures.proofs.close.Kinds as close-kinds
+use Rattle.closures.proofs.close.Reads as close-reads
+use Rattle.closures.proofs.has_circle.Kinds as has-circle-kinds
+use Rattle.closures.proofs.has_circle.Reads as has-circle-reads
+use Rattle.closures.proofs.root_graph.Kinds as root-graph-kinds
+use Rattle.closures.proofs.root_graph.Reads as root-graph-reads
 
 pub one-reading-own-rows : OneResult 1 own-rows-kinds.ps own-rows-kinds.r own-rows-reads.Post
 one-reading-own-rows κs a x y s t p q = p ∙ sym q

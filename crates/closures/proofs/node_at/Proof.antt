@@ -1,9 +1,9 @@
--- `graph::node_at` meets its contract. Assumes nothing.
+-- `closures::node_at` meets its contract. Assumes nothing.
 use Prim.Native.Nat.{_+_}
 use native.Mathlib.Omega.{arith}
 use borrow.Author.Needs.{needs}
-use Rattle.graph.proofs.node_at.Statement.{statement}
-use Rattle.graph.proofs.node_at.Tie as tie
+use Rattle.closures.proofs.node_at.Statement.{statement}
+use Rattle.closures.proofs.node_at.Tie as tie
 
 shared-slice-read-result : tie.Need-shared-slice-read-result
 shared-slice-read-result c = search needs

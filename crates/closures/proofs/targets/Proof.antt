@@ -1,12 +1,12 @@
--- `graph::targets` meets its contract. The loop's invariant: the targets of the first i rows are there. Assumes nothing.
+-- `closures::targets` meets its contract. The loop's invariant: the targets of the first i rows are there. Assumes nothing.
 use mathlib.Core.Path.{_≡_, refl}
 use Prim.Native.Nat.{_-_, _≤_}
 use native.Mathlib.Omega.{arith}
 use borrow.Author.Needs.{needs}
 use Rattle.graph.specs.Rows.{targetsTo}
 use Rattle.graph.proofs.Turns.{targets-more}
-use Rattle.graph.proofs.targets.Statement.{statement}
-use Rattle.graph.proofs.targets.Tie as tie
+use Rattle.closures.proofs.targets.Statement.{statement}
+use Rattle.closures.proofs.targets.Tie as tie
 
 abbrev Inv-loop : tie.InvT-loop
 Inv-loop rows m all₀ i₀ all i = (i ≤ m) × (all ≡ targetsTo i rows)

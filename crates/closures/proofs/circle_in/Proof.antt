@@ -1,14 +1,14 @@
--- `graph::circle_in` meets its contract. The loop's invariant: bit 0 of `seen` says whether a node below i has an edge to itself. Assumes nothing.
+-- `closures::circle_in` meets its contract. The loop's invariant: bit 0 of `seen` says whether a node below i has an edge to itself. Assumes nothing.
 use mathlib.Core.Path.{_≡_, refl, ap, _∙_}
 use Prim.Native.Nat.{ℕ, _*_, _-_, _%_, _≤_}
 use native.Mathlib.Omega.{arith}
 use lib.Bits.{and-mask}
 use lib.Dec.{eqb}
 use borrow.Author.Needs.{needs}
 use Rattle.graph.specs.Rows.{circleTo}
 use Rattle.graph.proofs.Turns.{circle-more, circle-clipped}
-use Rattle.graph.proofs.circle_in.Statement.{statement}
-use Rattle.graph.proofs.circle_in.Tie as tie
+use Rattle.closures.proofs.circle_in.Statement.{statement}
+use Rattle.closures.proofs.circle_in.Tie as tie
 
 abbrev Inv-loop : tie.InvT-loop
 Inv-loop rows occurrences n seen₀ i₀ seen i = (i ≤ n) × (eqb (seen % 2) 1 ≡ circleTo i rows)

@@ -1,14 +1,14 @@
--- `graph::root_graph` meets its contract. The loop's invariant: the pairs that begin in the first a attributes are there. Assumes nothing.
+-- `closures::root_graph` meets its contract. The loop's invariant: the pairs that begin in the first a attributes are there. Assumes nothing.
 use mathlib.Core.Path.{_≡_, refl}
 use Prim.Native.Nat.{_*_, _-_, _≤_}
 use native.Mathlib.Omega.{arith}
 use lib.ListN.{getD}
 use borrow.Author.Needs.{needs}
 use Rattle.numbers.proofs.Bits.{block-fits}
 use Rattle.graph.specs.Rows.{rootTo}
 use Rattle.graph.proofs.Turns.{root-more}
-use Rattle.graph.proofs.root_graph.Statement.{statement}
-use Rattle.graph.proofs.root_graph.Tie as tie
+use Rattle.closures.proofs.root_graph.Statement.{statement}
+use Rattle.closures.proofs.root_graph.Tie as tie
 
 abbrev Inv-loop : tie.InvT-loop
 Inv-loop rows graph₀ a₀ graph a = (a ≤ 8) × (graph ≡ rootTo 8 a rows)

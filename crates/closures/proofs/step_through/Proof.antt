@@ -1,13 +1,13 @@
--- `graph::step_through` meets its contract. The loop's invariant: the first i rows are changed. Assumes nothing.
+-- `closures::step_through` meets its contract. The loop's invariant: the first i rows are changed. Assumes nothing.
 use mathlib.Core.Path.{_≡_, refl, ap, _∙_}
 use Prim.Native.Nat.{_+_, _-_, _≤_}
 use native.Mathlib.Omega.{arith}
 use lib.ListN.{length}
 use borrow.Author.Needs.{needs}
 use Rattle.graph.specs.Rows.{through, mapFirst}
 use Rattle.graph.proofs.Turns.{map-more, length-map-first}
-use Rattle.graph.proofs.step_through.Statement.{statement}
-use Rattle.graph.proofs.step_through.Tie as tie
+use Rattle.closures.proofs.step_through.Statement.{statement}
+use Rattle.closures.proofs.step_through.Tie as tie
 
 abbrev Inv-loop : tie.InvT-loop
 Inv-loop rows₀ k via m i₀ rows i = (i ≤ m) × (length rows ≡ length rows₀) × (rows ≡ mapFirst i (through k via) rows₀)

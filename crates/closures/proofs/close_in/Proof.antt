@@ -1,4 +1,4 @@
--- `graph::close_in` meets its contract. The loop's invariant: the steps through the nodes below k are made. Assumes nothing.
+-- `closures::close_in` meets its contract. The loop's invariant: the steps through the nodes below k are made. Assumes nothing.
 use mathlib.Core.Path.{_≡_, sym, ap, _∙_}
 use mathlib.Core.List.{_++_}
 use mathlib.Core.Logic.{⊎-elim}
@@ -9,10 +9,10 @@ use lib.ListN.{length, getD, take, drop, take-append-drop}
 use lib.Seq.{length-take-le}
 use borrow.Author.Needs.{needs}
 use Rattle.numbers.specs.Number.{bit}
 use Rattle.graph.specs.Rows.{through, stepsTo}
 use Rattle.graph.proofs.Turns.{length-map-first, targets-none, step-made, step-from-none, step-to-none, closed-clipped}
-use Rattle.graph.proofs.close_in.Statement.{statement}
-use Rattle.graph.proofs.close_in.Tie as tie
+use Rattle.closures.proofs.close_in.Statement.{statement}
+use Rattle.closures.proofs.close_in.Tie as tie
 
 abbrev Inv-loop : tie.InvT-loop
 Inv-loop rows₀ occurrences m all k₀ rows k = (k ≤ m) × (length rows ≡ 64) × (rows ≡ stepsTo k (take m rows₀) ++ drop m rows₀)

@@ -1,7 +1,7 @@
--- `graph::has_circle` meets its contract. Assumes nothing.
+-- `closures::has_circle` meets its contract. Assumes nothing.
 use borrow.Author.Needs.{needs}
-use Rattle.graph.proofs.has_circle.Statement.{statement}
-use Rattle.graph.proofs.has_circle.Tie as tie
+use Rattle.closures.proofs.has_circle.Statement.{statement}
+use Rattle.closures.proofs.has_circle.Tie as tie
 
 circle-in-requires : tie.Need-circle-in-requires
 circle-in-requires c κs = search needs

@@ -1,0 +1,153 @@
+// Graphs as rows of bits: 64 rows of 64 bits, a row for each attribute of the eight occurrences that a production has at most.
+ghost use mathlib.Core.Path.{_≡_};
+ghost use Prim.Native.Nat.{_*_, _+_, _<_, _≤_, min};
+ghost use lib.ListN.{length, take, replicate};
+ghost use Rattle.grammar.specs.Table.{nodeIn, edgesIn};
+ghost use Rattle.graph.specs.Rows.{node, link, own, placed, through, mapFirst, targetsTo, closedFirst, hasCircle, rootGraph};
+
+// The number of the node whose occurrence and attribute stand at `at`.
+fn node_at(run: &[u8], at: usize) -> usize
+    requires { ⌜ at + 1 < length (now run) ⌝ }
+    ensures { λ r. ⌜ r ≡ node 8 (nodeIn (now (run .entry)) at) ⌝ }
+{
+    8 * (run[at] as usize) + run[at + 1] as usize
+}
+
+// One edge more; nothing changes where there is no such node.
+fn add_edge(rows: &mut [u64; 64], source: usize, target: usize)
+    requires { ⌜ length (now rows) ≡ 64 ⌝ }
+    ensures { λ _. ⌜ now (rows .exit) ≡ link source target (now (rows .entry)) ⌝ }
+{
+    if source < 64 {
+        if target < 64 {
+            rows[source] = rows[source] | 1 << target;
+        }
+    }
+}
+
+// The edges of a run of edge records.
+pub fn own_rows(run: &[u8]) -> [u64; 64]
+    ensures { λ r. ⌜ r ≡ own 8 (edgesIn (now (run .entry))) (replicate 64 0) ⌝ }
+{
+    let mut rows = [0u64; 64];
+    let count = run.len() / 6;
+    for e in 0..count {
+        let at = 6 * e;
+        let source = node_at(run, at + 2);
+        let target = node_at(run, at + 4);
+        add_edge(&mut rows, source, target);
+    }
+    rows
+}
+
+// A subtree's pairs, joined in at its occurrence.
+fn place_in(rows: &mut [u64], graph: u64, occurrence: usize)
+    requires { ⌜ length (now rows) ≡ 64 ⌝ }
+    ensures { λ _. ⌜ now (rows .exit) ≡ placed 8 occurrence graph (now (rows .entry)) ⌝ }
+{
+    if 8 <= occurrence {
+        return;
+    }
+    let base = 8 * occurrence;
+    for a in 0..8 {
+        let pairs = (graph >> (8 * a)) & 255;
+        rows[base + a] = rows[base + a] | (pairs << base);
+    }
+}
+
+pub fn place(rows: &mut [u64; 64], graph: u64, occurrence: usize)
+    ensures { λ _. ⌜ now (rows .exit) ≡ placed 8 occurrence graph (now (rows .entry)) ⌝ }
+{
+    place_in(rows, graph, occurrence);
+}
+
+// A row after the step through node k, whose row is `via`.
+fn joined(k: usize, via: u64, row: u64) -> u64
+    requires { ⌜ k < 64 ⌝ }
+    ensures { λ r. ⌜ r ≡ through k via row ⌝ }
+{
+    if (row >> k) & 1 == 1 { row | via } else { row }
+}
+
+// The step through node k, whose row is `via`, in the rows of the first m nodes.
+fn step_through(rows: &mut [u64], k: usize, via: u64, m: usize)
+    requires { ⌜ (k < 64) × (m ≤ length (now rows)) ⌝ }
+    ensures { λ _. ⌜ now (rows .exit) ≡ mapFirst m (through k via) (now (rows .entry)) ⌝ }
+{
+    for i in 0..m {
+        rows[i] = joined(k, via, rows[i]);
+    }
+}
+
+// How many nodes the occurrences have, of those that a table has room for.
+fn nodes(occurrences: usize) -> usize
+    ensures { λ r. ⌜ r ≡ min (8 * occurrences) 64 ⌝ }
+{
+    if occurrences < 8 { 8 * occurrences } else { 64 }
+}
+
+// The nodes to which an edge of the first m rows leads, as the bits of one row.
+fn targets(rows: &[u64], m: usize) -> u64
+    requires { ⌜ m ≤ length (now rows) ⌝ }
+    ensures { λ r. ⌜ r ≡ targetsTo m (now (rows .entry)) ⌝ }
+{
+    let mut all: u64 = 0;
+    for i in 0..m {
+        all = all | rows[i];
+    }
+    all
+}
+
+// The closure of the nodes of the first occurrences. The step through a node that no edge leaves, or to which none leads, would change
+// nothing and is left out.
+fn close_in(rows: &mut [u64], occurrences: usize)
+    requires { ⌜ length (now rows) ≡ 64 ⌝ }
+    ensures { λ _. ⌜ now (rows .exit) ≡ closedFirst (8 * occurrences) (now (rows .entry)) ⌝ }
+{
+    let m = nodes(occurrences);
+    let all = targets(rows, m);
+    for k in 0..m {
+        let via = rows[k];
+        if via != 0 {
+            if (all >> k) & 1 == 1 {
+                step_through(rows, k, via, m);
+            }
+        }
+    }
+}
+
+pub fn close(rows: &mut [u64; 64], occurrences: usize)
+    ensures { λ _. ⌜ now (rows .exit) ≡ closedFirst (8 * occurrences) (now (rows .entry)) ⌝ }
+{
+    close_in(rows, occurrences);
+}
+
+// Whether a node of the first occurrences has an edge to itself.
+fn circle_in(rows: &[u64], occurrences: usize) -> bool
+    requires { ⌜ length (now rows) ≡ 64 ⌝ }
+    ensures { λ r. ⌜ r ≡ hasCircle (take (8 * occurrences) (now (rows .entry))) ⌝ }
+{
+    let n = nodes(occurrences);
+    let mut seen: u64 = 0;
+    for i in 0..n {
+        seen = seen | rows[i] >> i;
+    }
+    seen & 1 == 1
+}
+
+pub fn has_circle(rows: &[u64; 64], occurrences: usize) -> bool
+    ensures { λ r. ⌜ r ≡ hasCircle (take (8 * occurrences) (now (rows .entry))) ⌝ }
+{
+    circle_in(rows, occurrences)
+}
+
+// The pairs among the nodes of the left symbol.
+pub fn root_graph(rows: &[u64; 64]) -> u64
+    ensures { λ r. ⌜ r ≡ rootGraph 8 (now (rows .entry)) ⌝ }
+{
+    let mut graph: u64 = 0;
+    for a in 0..8 {
+        graph = graph | ((rows[a] & 255) << (8 * a));
+    }
+    graph
+}
