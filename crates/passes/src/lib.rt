@@ -8,8 +8,8 @@ ghost use Rattle.grammar.specs.Table.{P, grammarOf};
 ghost use Rattle.grammar.specs.Refusal.{refusal};
 ghost use Rattle.rules.specs.Passes as stated;
 ghost use Rattle.rules.specs.Test.{systemOf};
-ghost use Rattle.passes.specs.Slices.{slices, roomOf, Tells, Tested};
 ghost use Rattle.steps.specs.Step.{goesOn};
+ghost use Rattle.passes.specs.Slices.{slices, roomOf, Tells, Tested};
 ghost use Rattle.passes.specs.Follow.{
   reportOf,
   entriesTo,
