@@ -1,0 +1,12 @@
+-- `vectors::table_buffer` meets its contract, by the length of a repeated array. Assumes nothing.
+use mathlib.Core.Path.{sym}
+use Prim.Native.Nat.{ℕ}
+use lib.ListN.{length-replicate}
+use Rattle.vectors.proofs.table_buffer.Statement.{statement}
+use Rattle.vectors.proofs.table_buffer.Tie as tie
+
+returns : tie.Need-returns
+returns c = sym (length-replicate {A = ℕ} 65535 0)
+
+pub table-buffer-spec : {M : Type 1} → statement M
+table-buffer-spec = tie.close (tie.spec returns)
