@@ -1,4 +1,4 @@
-//! Links the archive that `rt staticlib foreign` writes.
+//! Links the archive that `rt staticlib kusillaqe` writes.
 
 use std::path::PathBuf;
 
@@ -6,6 +6,6 @@ fn main() {
     let here = PathBuf::from(std::env::var("CARGO_MANIFEST_DIR").expect("cargo sets it"));
     let archive = here.join("../target/staticlib");
     println!("cargo:rustc-link-search=native={}", archive.display());
-    println!("cargo:rustc-link-lib=static=foreign");
-    println!("cargo:rerun-if-changed={}", archive.join("libforeign.a").display());
+    println!("cargo:rustc-link-lib=static=kusillaqe");
+    println!("cargo:rerun-if-changed={}", archive.join("libkusillaqe.a").display());
 }

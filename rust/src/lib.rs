@@ -6,9 +6,9 @@ pub type Rows = [u64; 64];
 
 // A slice passes as its address and its length.
 extern "C" {
-    fn circ_check(table: *const u8, table_len: usize) -> u8;
+    fn kusillaqe_check(table: *const u8, table_len: usize) -> u8;
     #[allow(clippy::too_many_arguments)]
-    fn circ_test(
+    fn kusillaqe_test(
         table: *const u8,
         table_len: usize,
         limit: u32,
@@ -22,11 +22,11 @@ extern "C" {
         kids_len: usize,
         report: *mut [u32; 12],
     );
-    fn circ_own_rows(run: *const u8, run_len: usize, rows: *mut Rows);
-    fn circ_place(rows: *mut Rows, graph: u64, occurrence: usize);
-    fn circ_close(rows: *mut Rows, occurrences: usize);
-    fn circ_has_circle(rows: *const Rows, occurrences: usize) -> bool;
-    fn circ_root_graph(rows: *const Rows) -> u64;
+    fn kusillaqe_own_rows(run: *const u8, run_len: usize, rows: *mut Rows);
+    fn kusillaqe_place(rows: *mut Rows, graph: u64, occurrence: usize);
+    fn kusillaqe_close(rows: *mut Rows, occurrences: usize);
+    fn kusillaqe_has_circle(rows: *const Rows, occurrences: usize) -> bool;
+    fn kusillaqe_root_graph(rows: *const Rows) -> u64;
 }
 
 /// What the test answers.
@@ -74,7 +74,7 @@ impl Entries {
 /// The check of a table: 0, or the number of its refusal.
 pub fn check(table: &[u8]) -> u8 {
     // SAFETY: the slice is `table.len()` bytes long and is only read.
-    unsafe { circ_check(table.as_ptr(), table.len()) }
+    unsafe { kusillaqe_check(table.as_ptr(), table.len()) }
 }
 
 /// The circularity test with at most `limit` closures; the stored entries are left at the front of `entries`.
@@ -88,7 +88,7 @@ pub fn test(table: &[u8], limit: u32, entries: &mut Entries) -> Report {
     } = entries;
     // SAFETY: each slice is given with its own length, and no two of them overlap.
     unsafe {
-        circ_test(
+        kusillaqe_test(
             table.as_ptr(),
             table.len(),
             limit,
@@ -131,30 +131,30 @@ fn answer(kind: u32, production: u32) -> Answer {
 pub fn own_rows(run: &[u8]) -> Rows {
     let mut rows = [0; 64];
     // SAFETY: the slice is `run.len()` bytes long, and `rows` is 64 numbers that nothing else refers to.
-    unsafe { circ_own_rows(run.as_ptr(), run.len(), &mut rows) };
+    unsafe { kusillaqe_own_rows(run.as_ptr(), run.len(), &mut rows) };
     rows
 }
 
 /// A subtree's pairs, placed at its occurrence.
 pub fn place(rows: &mut Rows, graph: u64, occurrence: usize) {
     // SAFETY: `rows` is 64 numbers that nothing else refers to.
-    unsafe { circ_place(rows, graph, occurrence) }
+    unsafe { kusillaqe_place(rows, graph, occurrence) }
 }
 
 /// The closure of the nodes of the first occurrences.
 pub fn close(rows: &mut Rows, occurrences: usize) {
     // SAFETY: as for `place`.
-    unsafe { circ_close(rows, occurrences) }
+    unsafe { kusillaqe_close(rows, occurrences) }
 }
 
 /// Whether a node of the first occurrences leads to itself.
 pub fn has_circle(rows: &Rows, occurrences: usize) -> bool {
     // SAFETY: `rows` is 64 numbers, which are only read.
-    unsafe { circ_has_circle(rows, occurrences) }
+    unsafe { kusillaqe_has_circle(rows, occurrences) }
 }
 
 /// The pairs among the nodes of the left symbol.
 pub fn root_graph(rows: &Rows) -> u64 {
     // SAFETY: as for `has_circle`.
-    unsafe { circ_root_graph(rows) }
+    unsafe { kusillaqe_root_graph(rows) }
 }

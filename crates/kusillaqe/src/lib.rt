@@ -7,14 +7,14 @@ ghost use Rattle.grammar.specs.Refusal.{refusal};
 ghost use Rattle.graph.specs.Rows.{own, placed, closedFirst, hasCircle, rootGraph};
 ghost use Rattle.rules.specs.Passes.{numberOf, productionOf};
 ghost use Rattle.passes.specs.Slices.{slices};
-ghost use Rattle.foreign.specs.Flat.{flat, TestedFlat};
+ghost use Rattle.kusillaqe.specs.Flat.{flat, TestedFlat};
 use grammar::Checked;
 use rules::Answer;
 use rules::Report;
 
 // The check of a table: 0, or the number of its refusal.
 #[no_mangle]
-pub extern "C" fn circ_check(table: &[u8]) -> u8
+pub extern "C" fn kusillaqe_check(table: &[u8]) -> u8
     ensures { λ r. ⌜ r ≡ refusal 8 (now (table .entry)) ⌝ }
 {
     let checked = checks::check(table);
@@ -77,7 +77,7 @@ fn flat_of(r: Report) -> [u32; 12]
 
 // The circularity test over four lent slices; the report is left in twelve numbers.
 #[no_mangle]
-pub extern "C" fn circ_test(
+pub extern "C" fn kusillaqe_test(
     table: &[u8],
     limit: u32,
     symbols: &mut [u16],
@@ -98,7 +98,7 @@ pub extern "C" fn circ_test(
 
 // The rows of a run of edge records.
 #[no_mangle]
-pub extern "C" fn circ_own_rows(run: &[u8], rows: &mut [u64; 64])
+pub extern "C" fn kusillaqe_own_rows(run: &[u8], rows: &mut [u64; 64])
     ensures { λ _. ⌜ now (rows .exit) ≡ own 8 (edgesIn (now (run .entry))) (replicate 64 0) ⌝ }
 {
     let own = closures::own_rows(run);
@@ -107,7 +107,7 @@ pub extern "C" fn circ_own_rows(run: &[u8], rows: &mut [u64; 64])
 
 // A subtree's pairs, placed at its occurrence.
 #[no_mangle]
-pub extern "C" fn circ_place(rows: &mut [u64; 64], graph: u64, occurrence: usize)
+pub extern "C" fn kusillaqe_place(rows: &mut [u64; 64], graph: u64, occurrence: usize)
     ensures { λ _. ⌜ now (rows .exit) ≡ placed 8 occurrence graph (now (rows .entry)) ⌝ }
 {
     closures::place(rows, graph, occurrence);
@@ -115,7 +115,7 @@ pub extern "C" fn circ_place(rows: &mut [u64; 64], graph: u64, occurrence: usize
 
 // The closure of the nodes of the first occurrences.
 #[no_mangle]
-pub extern "C" fn circ_close(rows: &mut [u64; 64], occurrences: usize)
+pub extern "C" fn kusillaqe_close(rows: &mut [u64; 64], occurrences: usize)
     ensures { λ _. ⌜ now (rows .exit) ≡ closedFirst (8 * occurrences) (now (rows .entry)) ⌝ }
 {
     closures::close(rows, occurrences);
@@ -123,7 +123,7 @@ pub extern "C" fn circ_close(rows: &mut [u64; 64], occurrences: usize)
 
 // Whether a node of the first occurrences leads to itself.
 #[no_mangle]
-pub extern "C" fn circ_has_circle(rows: &[u64; 64], occurrences: usize) -> bool
+pub extern "C" fn kusillaqe_has_circle(rows: &[u64; 64], occurrences: usize) -> bool
     ensures { λ r. ⌜ r ≡ hasCircle (take (8 * occurrences) (now (rows .entry))) ⌝ }
 {
     closures::has_circle(rows, occurrences)
@@ -131,7 +131,7 @@ pub extern "C" fn circ_has_circle(rows: &[u64; 64], occurrences: usize) -> bool
 
 // The pairs among the nodes of the left symbol.
 #[no_mangle]
-pub extern "C" fn circ_root_graph(rows: &[u64; 64]) -> u64
+pub extern "C" fn kusillaqe_root_graph(rows: &[u64; 64]) -> u64
     ensures { λ r. ⌜ r ≡ rootGraph 8 (now (rows .entry)) ⌝ }
 {
     closures::root_graph(rows)

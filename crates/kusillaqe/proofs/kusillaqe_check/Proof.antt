@@ -1,9 +1,9 @@
--- `foreign::circ_check` meets its contract. Assumes nothing.
+-- `kusillaqe::kusillaqe_check` meets its contract. Assumes nothing.
 use mathlib.Core.Path.{sym, _∙_}
 use borrow.Author.Needs.{needs}
 use Rattle.passes.proofs.Testing.{checked-good, checked-stopped}
-use Rattle.foreign.proofs.circ_check.Statement.{statement}
-use Rattle.foreign.proofs.circ_check.Tie as tie
+use Rattle.kusillaqe.proofs.kusillaqe_check.Statement.{statement}
+use Rattle.kusillaqe.proofs.kusillaqe_check.Tie as tie
 
 check-requires : tie.Need-check-requires
 check-requires c κs = search needs
@@ -20,6 +20,6 @@ returns c = sym (checked-good _ (sym (c .before .before .check .ensures) ∙ c .
 returns-2 : tie.Need-returns-2
 returns-2 c = sym (checked-stopped _ _ (sym (c .before .before .before .check .ensures) ∙ c .before .checked .given .1) .0)
 
-pub circ-check-spec : {M : Type 1} → statement M
-circ-check-spec =
+pub kusillaqe-check-spec : {M : Type 1} → statement M
+kusillaqe-check-spec =
     tie.close (tie.spec check-requires enum-told enum-known-checked returns returns-2)

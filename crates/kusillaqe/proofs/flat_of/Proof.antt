@@ -1,7 +1,7 @@
--- `foreign::flat_of` meets its contract. Assumes nothing.
+-- `kusillaqe::flat_of` meets its contract. Assumes nothing.
 use borrow.Author.Needs.{needs}
-use Rattle.foreign.proofs.flat_of.Statement.{statement}
-use Rattle.foreign.proofs.flat_of.Tie as tie
+use Rattle.kusillaqe.proofs.flat_of.Statement.{statement}
+use Rattle.kusillaqe.proofs.flat_of.Tie as tie
 
 kind-of-requires : tie.Need-kind-of-requires
 kind-of-requires c κs = search needs
