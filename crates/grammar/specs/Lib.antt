@@ -1,5 +1,6 @@
 -- The grammar, its table of bytes, the rules that the table obeys, which it breaks first, and what the functions answer.
 pub mod Grammar
+pub mod Fits
 pub mod Table
 pub mod Rules
 pub mod Refusal

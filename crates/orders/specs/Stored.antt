@@ -1,9 +1,10 @@
 -- What is stored: combinations of entries, how an entry is made of earlier ones, and when nothing is left to make. Assumes nothing.
 use mathlib.Core.Path.{_≡_}
 use mathlib.Core.Bool.{true, false}
-use mathlib.Core.List.{List, [], _∷_, List·Memᴰ}
+use mathlib.Core.List.{List, List·Memᴰ}
 use Prim.Native.Nat.{ℕ, _<_}
 use lib.ListN.{length, take}
+use Rattle.grammar.specs.Fits as general
 use Rattle.rules.specs.declared.Entry.{Entry}
 use Rattle.rules.specs.Passes.{System, entry, graphs, seven}
 
@@ -13,10 +14,7 @@ In ps p = List·Memᴰ p ps
 
 -- one entry number for each of the symbols bs: it passes P, and its entry has that symbol
 abbrev pub Fits : List Entry → (ℕ → Type 0) → List ℕ → List ℕ → Type 0
-Fits es P [] [] = Unit {0}
-Fits es P [] (b ∷ bs) = ⊥
-Fits es P (k ∷ c) [] = ⊥
-Fits es P (k ∷ c) (b ∷ bs) = P k × (entry es k .symbol ≡ b) × Fits es P c bs
+Fits es P = general.Fits P (λ k. entry es k .symbol)
 
 -- a combination of the entries below n
 abbrev pub Combination : List Entry → ℕ → List ℕ → List ℕ → Type 0
