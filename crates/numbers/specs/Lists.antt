@@ -1,6 +1,7 @@
--- Runs of numbers, tests over a list, the order of lists, and what is written over the front of a list. Assumes nothing.
+-- Runs of numbers, tests over a list, lists with no two equal elements, the order of lists, and what is written over the front of a list.
+-- Assumes nothing.
 use mathlib.Core.Bool.{Bool, true, false, _||_, cond}
-use mathlib.Core.List.{List, [], _∷_, _++_}
+use mathlib.Core.List.{List, [], _∷_, _++_, List·Memᴰ}
 use mathlib.Core.Logic.{_⊎_}
 use mathlib.Core.Path.{_≡_}
 use Prim.Native.Nat.{ℕ, zero, suc, _<_}
@@ -27,6 +28,11 @@ module _ {A : Type 0} where
   unfoldable pub keep : (A → Bool) → List A → List A
   keep f [] = []
   keep f (x ∷ xs) = cond (f x) (x ∷ keep f xs) (keep f xs)
+
+  -- no two elements are equal
+  abbrev pub Distinct : List A → Type 0
+  Distinct [] = Unit {0}
+  Distinct (x ∷ xs) = (¬ List·Memᴰ x xs) × Distinct xs
 
   -- `new` over the front of `old`, and the rest of `old` as before
   abbrev pub written : List A → List A → List A

@@ -5,9 +5,8 @@ use mathlib.Core.Path.{_≡_, _∙_, ap, subst}
 use Prim.Native.Nat.{ℕ, _*_, _^_, _≤_, _<_}
 use native.Mathlib.Omega.{arith}
 use lib.ListN.{length, length-map}
-use Rattle.numbers.specs.Lists.{upFrom}
+use Rattle.numbers.specs.Lists.{upFrom, Distinct}
 use Rattle.grammar.specs.Grammar.{Grammar}
-use Rattle.trees.specs.Lists.{Distinct}
 use Rattle.trees.specs.Tree.{Tree}
 use Rattle.trees.specs.Compound.{IsGraph, NumberHolds}
 use Rattle.trees.specs.Record.{Entry, shownEntry, pairs, OfTree, Derived, Saturated}

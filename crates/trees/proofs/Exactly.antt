@@ -4,11 +4,10 @@ use mathlib.Core.Logic.{_⊎_, inl, inr, ⊎-map, _↔_}
 use mathlib.Core.Path.{_≡_, sym, _∙_, ap, subst}
 use Prim.Native.Nat.{ℕ, suc, _+_, _<_}
 use native.Mathlib.Omega.{arith}
-use Rattle.numbers.specs.Lists.{upFrom}
+use Rattle.numbers.specs.Lists.{upFrom, Distinct}
 use Rattle.grammar.specs.Grammar.{Grammar, symbol, production}
 use Rattle.trees.specs.Tree.{Tree, node, Kids, nil, cons, Instance, here, under, instances, kidInstances}
-use Rattle.trees.specs.Address.{address, attribute, Kid, first, later, Subtree, whole, down, Stands}
-use Rattle.trees.specs.Lists.{Distinct}
+use Rattle.trees.specs.Address.{address, attribute, Kid, first, later, Subtree, whole, down, HasValue}
 use Rattle.numbers.proofs.Members.{upFrom-mem}
 use Rattle.trees.proofs.Lists.{distinct-upFrom, distinct-map, distinct-append}
 use Rattle.trees.proofs.Values.{ith, value-root, value-under}
@@ -19,18 +18,18 @@ module _ (g : Grammar) where
   roots p = map here (upFrom 0 (symbol g (production g p .left) .count))
 
   -- y is x in the i-th of the kids, of which the first is the j-th
-  record KidStands (ks : Kids) (j : ℕ) (y : Instance) : Type 0 where
+  record KidHasValue (ks : Kids) (j : ℕ) (y : Instance) : Type 0 where
     i : ℕ
     t : Tree
     x : Instance
     is : y ≡ under (i + j) x
     kid : Kid ks i t
-    there : Stands g t x
+    there : HasValue g t x
 
-  stands-down : (p : ℕ) (ks : Kids) (y : Instance) → KidStands ks 0 y → Stands g (node p ks) y
+  stands-down : (p : ℕ) (ks : Kids) (y : Instance) → KidHasValue ks 0 y → HasValue g (node p ks) y
   stands-down p ks y k =
       let e : k .i + 0 ≡ k .i = omega arith in
-      subst (Stands g (node p ks)) (sym (k .is ∙ ap (λ (n : ℕ). under n (k .x)) e))
+      subst (HasValue g (node p ks)) (sym (k .is ∙ ap (λ (n : ℕ). under n (k .x)) e))
       (record {
         p = k .there .p;
         ks = k .there .ks;
@@ -38,14 +37,14 @@ module _ (g : Grammar) where
         attribute-there = k .there .attribute-there;
       })
 
-  stands-node : (p : ℕ) (ks : Kids) (y : Instance) → List·Memᴰ y (roots p) ⊎ KidStands ks 0 y → Stands g (node p ks) y
+  stands-node : (p : ℕ) (ks : Kids) (y : Instance) → List·Memᴰ y (roots p) ⊎ KidHasValue ks 0 y → HasValue g (node p ks) y
   stands-node p ks y (inl m) =
       let r = Memᴰ·of-map here (upFrom 0 (symbol g (production g p .left) .count)) m in
-      subst (Stands g (node p ks)) (r .2)
+      subst (HasValue g (node p ks)) (r .2)
       (record { p = p; ks = ks; node-there = whole; attribute-there = omega (arith, upFrom-mem 0 _ (r .1) .1) })
   stands-node p ks y (inr k) = stands-down p ks y k
 
-  kid-later : (t : Tree) (ks : Kids) (j : ℕ) (y : Instance) → KidStands ks (suc j) y → KidStands (cons t ks) j y
+  kid-later : (t : Tree) (ks : Kids) (j : ℕ) (y : Instance) → KidHasValue ks (suc j) y → KidHasValue (cons t ks) j y
   kid-later t ks j y k =
       let z : k .i + suc j ≡ suc (k .i) + j = omega arith in
       record {
@@ -58,8 +57,8 @@ module _ (g : Grammar) where
       }
 
   kid-stands-node :
-      (t : Tree) (ks : Kids) (j : ℕ) (y : Instance) → ((x : Instance) → List·Memᴰ x (instances g t) → Stands g t x)
-      → List·Memᴰ y (map (under j) (instances g t)) ⊎ KidStands ks (suc j) y → KidStands (cons t ks) j y
+      (t : Tree) (ks : Kids) (j : ℕ) (y : Instance) → ((x : Instance) → List·Memᴰ x (instances g t) → HasValue g t x)
+      → List·Memᴰ y (map (under j) (instances g t)) ⊎ KidHasValue ks (suc j) y → KidHasValue (cons t ks) j y
   kid-stands-node t ks j y f (inl m) =
       let r = Memᴰ·of-map (under j) (instances g t) m in
       let z : j ≡ 0 + j = omega arith in
@@ -67,10 +66,10 @@ module _ (g : Grammar) where
   kid-stands-node t ks j y f (inr k) = kid-later t ks j y k
 
   mutual
-    stands : (t : Tree) (y : Instance) → List·Memᴰ y (instances g t) → Stands g t y
+    stands : (t : Tree) (y : Instance) → List·Memᴰ y (instances g t) → HasValue g t y
     stands (node p ks) y m = stands-node p ks y (⊎-map (λ r. r) (λ k. kid-stands ks 0 y k) (List·Memᴰ·append-cases (roots p) m))
 
-    kid-stands : (ks : Kids) (j : ℕ) (y : Instance) → List·Memᴰ y (kidInstances g ks j) → KidStands ks j y
+    kid-stands : (ks : Kids) (j : ℕ) (y : Instance) → List·Memᴰ y (kidInstances g ks j) → KidHasValue ks j y
     kid-stands nil j y m = absurd (List·Memᴰ·not-nil m)
     kid-stands (cons t ks) j y m =
         kid-stands-node t ks j y (λ x k. stands t x k)
@@ -88,7 +87,7 @@ module _ (g : Grammar) where
   listed (under i x) p ks (down {p = q} {ks = js} k s) l = value-under g q js i x (of-kid x k (listed x p ks s l))
 
   -- x is listed exactly if a node stands at its address whose symbol has its attribute
-  pub exactly : (t : Tree) (x : Instance) → List·Memᴰ x (instances g t) ↔ Stands g t x
+  pub exactly : (t : Tree) (x : Instance) → List·Memᴰ x (instances g t) ↔ HasValue g t x
   exactly t x = (stands t x, λ s. listed x (s .p) (s .ks) (s .node-there) (s .attribute-there))
 
   -- ---- each once

@@ -5,10 +5,9 @@ use mathlib.Core.Path.{_≡_, refl, sym, _∙_, ap}
 use Prim.Native.Nat.{ℕ, zero, suc, _+_, _≤_, _<_}
 use native.Mathlib.Omega.{arith}
 use lib.ListN.{length, getD, length-map}
-use Rattle.numbers.specs.Lists.{upFrom}
+use Rattle.numbers.specs.Lists.{upFrom, Distinct}
 use Rattle.numbers.proofs.Ranges.{length-upFrom}
 use Rattle.numbers.proofs.Members.{at-cons, upFrom-at, upFrom-mem}
-use Rattle.trees.specs.Lists.{Distinct}
 
 -- ---- members
 

@@ -21,7 +21,7 @@ use Rattle.grammar.specs.declared.Edge.{Edge}
 use Rattle.grammar.specs.Grammar.{Grammar, noSymbol, production, symbolAt, edgesOf}
 use Rattle.grammar.specs.Rules.{NodeThere}
 use Rattle.graph.specs.Compound.{CompoundEdge}
-use Rattle.trees.specs.Tree.{Instance, here, under, at, Valid, AtMost}
+use Rattle.trees.specs.Tree.{Instance, here, under, at, WellFormed, AtMost}
 use Rattle.trees.specs.Address.{attribute}
 use Rattle.trees.specs.Compound.{Compound, IthHolds, OverGraphs, Makes, NumberHolds}
 use Rattle.trees.proofs.Lists.{getD-each}
@@ -86,7 +86,7 @@ number-ith w (graph ∷ graphs) zero a b h = (omega arith, h)
 number-ith w (graph ∷ graphs) (suc k) a b h = let r = number-ith w graphs k a b h in (omega (arith, r .0), r .1)
 
 -- ---- the compound graph, of a grammar whose edges are good and whose symbols have at most w attributes
-module _ (w : ℕ) (g : Grammar) (valid : Valid g) (few : AtMost w g) (p : ℕ) (graphs : List ℕ) where
+module _ (w : ℕ) (g : Grammar) (formed : WellFormed g) (few : AtMost w g) (p : ℕ) (graphs : List ℕ) where
   abbrev C : Instance → Instance → Type 0
   C = OverGraphs g (NumberHolds w) p graphs
 
@@ -102,10 +102,10 @@ module _ (w : ℕ) (g : Grammar) (valid : Valid g) (few : AtMost w g) (p : ℕ) 
       )
 
   pub source-below : (e : Edge) → List·Memᴰ e (g .edges) → e .source .attribute < w
-  source-below e m = there-below (production g (e .production)) (e .source) (valid .edges e m .source)
+  source-below e m = there-below (production g (e .production)) (e .source) (formed .edges e m .source)
 
   pub target-below : (e : Edge) → List·Memᴰ e (g .edges) → e .target .attribute < w
-  target-below e m = there-below (production g (e .production)) (e .target) (valid .edges e m .target)
+  target-below e m = there-below (production g (e .production)) (e .target) (formed .edges e m .target)
 
   pub own-edge : (e : Edge) → List·Memᴰ e (edgesOf g p) → List·Memᴰ e (g .edges) × (e .production ≡ p)
   own-edge e m = let k = keep-mem (λ (d : Edge). eqb (d .production) p) (g .edges) m in (k .0, eqb-true (e .production) p (k .1))

@@ -7,9 +7,9 @@ use mathlib.Core.Path.{_≡_, refl, sym, _∙_, subst, ap₂}
 use Prim.Native.Nat.{ℕ, zero, suc, _+_, _≤_, _<_}
 use native.Mathlib.Omega.{arith}
 use lib.ListN.{length}
+use Rattle.numbers.specs.Lists.{Distinct}
 use Rattle.numbers.specs.Paths.{Plus, one, Circle}
-use Rattle.trees.specs.Evaluator.{State, trueIf, taken, oneUnless, left, Ready, Run, start, take}
-use Rattle.trees.specs.Lists.{Distinct}
+use Rattle.trees.specs.Evaluator.{Computed, trueIf, taken, oneUnless, left, Ready, Run, start, take}
 use Rattle.trees.proofs.Lists.{Without, without}
 use Rattle.trees.proofs.Paths.{Star, stay, go, plus-star, before}
 
@@ -21,17 +21,17 @@ oneUnless-le : (b : Bool) {n m : ℕ} → n ≤ m → oneUnless b n ≤ suc m
 oneUnless-le true l = omega arith
 oneUnless-le false l = omega arith
 
-pub left-le : {A : Type 0} (c : State A) (l : List A) → left c l ≤ length l
+pub left-le : {A : Type 0} (c : Computed A) (l : List A) → left c l ≤ length l
 left-le c [] = omega arith
 left-le c (x ∷ l) = oneUnless-le (c x) (left-le c l)
 
-pub left-none : {A : Type 0} (c : State A) (l : List A) → ((x : A) → List·Memᴰ x l → c x ≡ true) → left c l ≡ 0
+pub left-none : {A : Type 0} (c : Computed A) (l : List A) → ((x : A) → List·Memᴰ x l → c x ≡ true) → left c l ≡ 0
 left-none c [] h = refl
 left-none c (x ∷ l) h = rw (h x (List·Memᴰ·head refl)) (left-none c l (λ y m. h y (List·Memᴰ·tail m)))
 
 -- ---- a taking
 
-module _ {A : Type 0} (eq : Discrete A) (c : State A) (y : A) where
+module _ {A : Type 0} (eq : Discrete A) (c : Computed A) (y : A) where
   pub taken-cases : (x : A) → (x ≡ y) ⊎ (taken eq c y x ≡ c x)
   unfolding taken
   taken-cases x = by (eq x y)
@@ -72,7 +72,7 @@ module _ {A : Type 0} (eq : Discrete A) (c : State A) (y : A) where
 module _ {A : Type 0} (eq : Discrete A) (E : A → A → Type 0) (values : List A) where
   -- on a circle nothing is ever computed
   pub blocked :
-      {c d : State A} {n : ℕ}
+      {c d : Computed A} {n : ℕ}
       → ((x : A) → Plus E x x → c x ≡ false) → Run eq E values c n d
       → (x : A) → Plus E x x → d x ≡ false
   blocked h start x p = h x p
@@ -85,14 +85,14 @@ module _ {A : Type 0} (eq : Discrete A) (E : A → A → Type 0) (values : List 
       by ih (inr e) = e ∙ ih x p
 
   -- each taking leaves one value less
-  pub counted : Distinct values → {c d : State A} {n : ℕ} → Run eq E values c n d → n + left d values ≡ left c values
+  pub counted : Distinct values → {c d : Computed A} {n : ℕ} → Run eq E values c n d → n + left d values ≡ left c values
   counted once start = omega arith
   counted once (take {d = d} r y q) =
       omega (arith, left-taken eq d y (q .uncomputed) values once (q .among), counted once r)
 
 -- ---- no circle: wherever a value is not computed, some value may be taken
 module _
-    {A : Type 0} (E : A → A → Type 0) (values : List A) (c : State A) (no-circle : ¬ Circle E)
+    {A : Type 0} (E : A → A → Type 0) (values : List A) (c : Computed A) (no-circle : ¬ Circle E)
     (sources : (x y : A) → E x y → List·Memᴰ x values)
     (find : (y : A) → ((x : A) × E x y × (c x ≡ false)) ⊎ ((x : A) → E x y → c x ≡ true)) where
   abbrev Found : Type 0

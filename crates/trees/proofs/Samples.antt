@@ -13,7 +13,7 @@ use Rattle.grammar.specs.declared.Production.{Production}
 use Rattle.grammar.specs.declared.Edge.{Edge}
 use Rattle.grammar.specs.Grammar.{symbolAt, edgesOf}
 use Rattle.grammar.specs.Rules.{GoodEdge}
-use Rattle.trees.specs.Tree.{Tree, node, Kids, nil, cons, Complete, OneEach, InTable, Instance, here, under, at, instanceOf, instances, Link, Own, Joined, TreeEdge, KidEdge, Circular, Valid, AtMost}
+use Rattle.trees.specs.Tree.{Tree, node, Kids, nil, cons, Complete, OneEach, InTable, Instance, here, under, at, instanceOf, instances, Link, Own, Joined, TreeEdge, KidEdge, Circular, WellFormed, AtMost}
 use Rattle.graph.specs.Compound.{CompoundEdge}
 use Rattle.trees.specs.Record.{Entry, shown}
 use Rattle.trees.specs.Small.{edge, withEdges, grammarA, grammarB, grammarC, zeroOverOne}
@@ -182,8 +182,8 @@ module _ (es : List Edge) (a b : ℕ) (la : a < 4) (lb : b < 4) where
         allowed = h;
       }
 
-pub valid-A : Valid grammarA
-valid-A =
+pub well-formed-A : WellFormed grammarA
+well-formed-A =
     record {
       slots = slots-there (grammarA .edges);
       edges =
@@ -191,8 +191,8 @@ valid-A =
           (good-1 _ 0 2 (omega arith) (omega arith) refl) (good-2 _ 1 3 (omega arith) (omega arith) refl);
     }
 
-pub valid-B : Valid grammarB
-valid-B =
+pub well-formed-B : WellFormed grammarB
+well-formed-B =
     record {
       slots = slots-there (grammarB .edges);
       edges =

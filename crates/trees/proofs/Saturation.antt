@@ -8,7 +8,7 @@ use Rattle.numbers.specs.Paths.{Circle}
 use Rattle.grammar.specs.Grammar.{Grammar, production, rights}
 use Rattle.trees.specs.Tree.{Tree, node, Kids, nil, cons, rootSymbol, Complete, OneEach, TreeEdge, KidEdge, Circular}
 use Rattle.trees.specs.Compound.{IsGraph, AreGraphs}
-use Rattle.trees.specs.Record.{Entry, Fits, graphs, Stored, Saturated}
+use Rattle.trees.specs.Record.{Entry, Combination, graphs, Stored, Saturated}
 use Rattle.trees.proofs.Paths.{first-edge}
 use Rattle.trees.proofs.Graphs.{makes-graph, graphs-circle}
 
@@ -19,7 +19,7 @@ module _ (g : Grammar) {Graph : Type 0} (Holds : Graph → ℕ → ℕ → Type 
 
   record SettledKids (ks : Kids) (ss : List ℕ) : Type 0 where
     numbers : List ℕ
-    fits : Fits entry count numbers ss
+    fits : Combination entry count numbers ss
     graphs-are : AreGraphs g Holds (graphs entry numbers) ks
     no-circle : (i : ℕ) → ¬ Circle (KidEdge g ks i)
 

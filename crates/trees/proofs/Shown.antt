@@ -8,32 +8,32 @@ use native.Mathlib.Omega.{arith}
 use lib.ListN.{length, length-map}
 use Rattle.numbers.specs.Paths.{Circle}
 use Rattle.grammar.specs.Grammar.{Grammar, production, rights}
-use Rattle.trees.specs.Tree.{Tree, node, cons, Complete, OneEach, TreeEdge, Valid}
+use Rattle.trees.specs.Tree.{Tree, node, cons, Complete, OneEach, TreeEdge, WellFormed}
 use Rattle.trees.specs.Compound.{OverGraphs, Makes, AreGraphs}
-use Rattle.trees.specs.Record.{Entry, row, levels, shownEntry, shown, Fits, graphs, Derived, Shows}
+use Rattle.trees.specs.Record.{Entry, row, levels, shownEntry, shown, Combination, graphs, Derived, Shows}
 use Rattle.numbers.proofs.Members.{at-cons}
 use Rattle.trees.proofs.Values.{length-rights}
 use Rattle.trees.proofs.Graphs.{makes-graph, graphs-circle}
 
 -- there is a graph for each right symbol
-fits-length : {Graph : Type 0} (entry : ℕ → Entry Graph) (n : ℕ) (ks ss : List ℕ) → Fits entry n ks ss → length ks ≡ length ss
+fits-length : {Graph : Type 0} (entry : ℕ → Entry Graph) (n : ℕ) (ks ss : List ℕ) → Combination entry n ks ss → length ks ≡ length ss
 fits-length entry n [] [] w = refl
 fits-length entry n [] (s ∷ ss) w = absurd w
 fits-length entry n (k ∷ ks) [] w = absurd w
 fits-length entry n (k ∷ ks) (s ∷ ss) (l, e, w) = ap suc (fits-length entry n ks ss w)
 
 -- the numbers are below n
-pub fits-below : {Graph : Type 0} (entry : ℕ → Entry Graph) (n : ℕ) (ks ss : List ℕ) → Fits entry n ks ss → (j : ℕ) → List·Memᴰ j ks → j < n
+pub fits-below : {Graph : Type 0} (entry : ℕ → Entry Graph) (n : ℕ) (ks ss : List ℕ) → Combination entry n ks ss → (j : ℕ) → List·Memᴰ j ks → j < n
 fits-below entry n [] [] w j m = absurd (List·Memᴰ·not-nil m)
 fits-below entry n [] (s ∷ ss) w j m = absurd w
 fits-below entry n (k ∷ ks) [] w j m = absurd w
 fits-below entry n (k ∷ ks) (s ∷ ss) (l, e, w) j m = at-cons (λ i. i < n) l (fits-below entry n ks ss w j) m
 
 pub graphs-count :
-    (g : Grammar) → Valid g → {Graph : Type 0} (entry : ℕ → Entry Graph) (n p : ℕ) (ks : List ℕ)
-    → Fits entry n ks (rights (production g p)) → length (graphs entry ks) ≡ production g p .n
-graphs-count g valid entry n p ks w =
-    length-map ks (λ k. entry k .graph) ∙ fits-length entry n ks (rights (production g p)) w ∙ length-rights g valid p
+    (g : Grammar) → WellFormed g → {Graph : Type 0} (entry : ℕ → Entry Graph) (n p : ℕ) (ks : List ℕ)
+    → Combination entry n ks (rights (production g p)) → length (graphs entry ks) ≡ production g p .n
+graphs-count g formed entry n p ks w =
+    length-map ks (λ k. entry k .graph) ∙ fits-length entry n ks (rights (production g p)) w ∙ length-rights g formed p
 
 module _ (g : Grammar) {Graph : Type 0} (Holds : Graph → ℕ → ℕ → Type 0) (Part : ℕ → Type 0) (entry : ℕ → Entry Graph) where
   -- t is a tree of the entry k
@@ -42,7 +42,7 @@ module _ (g : Grammar) {Graph : Type 0} (Holds : Graph → ℕ → ℕ → Type 
 
   row-shows :
       (tree : ℕ → Tree) (n : ℕ) → ((k : ℕ) → k < n → ShowsEntry k (tree k))
-      → (ks ss : List ℕ) → Fits entry n ks ss
+      → (ks ss : List ℕ) → Combination entry n ks ss
       → OneEach g Part (row tree ks) ss × AreGraphs g Holds (graphs entry ks) (row tree ks)
   row-shows tree n h [] [] w = (tt, tt)
   row-shows tree n h [] (s ∷ ss) w = absurd w
@@ -55,7 +55,7 @@ module _ (g : Grammar) {Graph : Type 0} (Holds : Graph → ℕ → ℕ → Type 
   -- a production over trees of entries
   module _
       (tree : ℕ → Tree) (n : ℕ) (shows : (k : ℕ) → k < n → ShowsEntry k (tree k))
-      (p : ℕ) (ks : List ℕ) (part : Part p) (fits : Fits entry n ks (rights (production g p))) where
+      (p : ℕ) (ks : List ℕ) (part : Part p) (fits : Combination entry n ks (rights (production g p))) where
     row-graphs : AreGraphs g Holds (graphs entry ks) (row tree ks)
     row-graphs = row-shows tree n shows ks (rights (production g p)) fits .1
 
@@ -88,7 +88,7 @@ module _ (g : Grammar) {Graph : Type 0} (Holds : Graph → ℕ → ℕ → Type 
     pub entry-shown : (k : ℕ) → k < count → Shows g Holds Part (entry k .symbol) (entry k .graph) (shownEntry entry k)
     entry-shown k l = levels-show (suc k) k (omega arith) l
 
-    module _ (p : ℕ) (ks : List ℕ) (part : Part p) (fits : Fits entry count ks (rights (production g p))) where
+    module _ (p : ℕ) (ks : List ℕ) (part : Part p) (fits : Combination entry count ks (rights (production g p))) where
       pub shown-complete : Complete g Part (shown entry p ks)
       shown-complete = node-complete (shownEntry entry) count entry-shown p ks part fits
 
@@ -104,7 +104,7 @@ module _ (g : Grammar) {Graph : Type 0} (Holds : Graph → ℕ → ℕ → Type 
 
     -- ---- the shown tree of an entry is its production over the shown trees of its entry numbers
 
-    same-row : (s t : ℕ → Tree) (n : ℕ) → ((k : ℕ) → k < n → s k ≡ t k) → (ks ss : List ℕ) → Fits entry n ks ss → row s ks ≡ row t ks
+    same-row : (s t : ℕ → Tree) (n : ℕ) → ((k : ℕ) → k < n → s k ≡ t k) → (ks ss : List ℕ) → Combination entry n ks ss → row s ks ≡ row t ks
     same-row s t n h [] [] w = refl
     same-row s t n h [] (x ∷ ss) w = absurd w
     same-row s t n h (k ∷ ks) [] w = absurd w

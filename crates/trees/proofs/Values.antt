@@ -16,16 +16,16 @@ use Rattle.grammar.specs.declared.Production.{Production}
 use Rattle.grammar.specs.declared.Edge.{Edge}
 use Rattle.grammar.specs.Grammar.{Grammar, noProduction, symbol, production, rights, symbolAt}
 use Rattle.grammar.specs.Rules.{Allowed}
-use Rattle.trees.specs.Tree.{Tree, node, Kids, nil, cons, rootSymbol, Complete, OneEach, Instance, here, under, same, at, instanceOf, instances, kidInstances, Link, Own, Joined, TreeEdge, KidEdge, Valid}
-use Rattle.trees.specs.Evaluator.{State, given}
+use Rattle.trees.specs.Tree.{Tree, node, Kids, nil, cons, rootSymbol, Complete, OneEach, Instance, here, under, sameInstance, at, instanceOf, instances, kidInstances, Link, Own, Joined, TreeEdge, KidEdge, WellFormed}
+use Rattle.trees.specs.Evaluator.{Computed, given}
 use Rattle.numbers.proofs.Members.{upFrom-at}
 use Rattle.trees.proofs.Lists.{getD-each}
 
 -- a production has as many right symbols as its n says
-pub length-rights : (g : Grammar) → Valid g → (p : ℕ) → length (rights (production g p)) ≡ production g p .n
-length-rights g valid p =
+pub length-rights : (g : Grammar) → WellFormed g → (p : ℕ) → length (rights (production g p)) ≡ production g p .n
+length-rights g formed p =
     length-take-le (production g p .n) (production g p .slots)
-    (getD-each (λ (q : Production). q .n ≤ length (q .slots)) (g .productions) noProduction (omega arith) (valid .slots) p)
+    (getD-each (λ (q : Production). q .n ≤ length (q .slots)) (g .productions) noProduction (omega arith) (formed .slots) p)
 
 module _ (g : Grammar) where
   -- ---- which values a tree has
@@ -75,7 +75,7 @@ module _ (g : Grammar) where
     value-at p ks zero a w h l = value-root (node p ks) a l
     value-at p ks (suc i) a w h l = value-under p ks i (here a) (value-kid ks (rights (production g p)) i a w h l)
 
-  module _ (valid : Valid g) where
+  module _ (formed : WellFormed g) where
     -- ---- each source is a value of the tree
     module _ (Part : ℕ → Type 0) where
       own-source :
@@ -83,10 +83,10 @@ module _ (g : Grammar) where
           → OneEach g Part ks (rights (production g p)) → Own g p x y
           → List·Memᴰ x (instances g (node p ks))
       own-source p ks x y w h =
-          let v = rw (h .which) at (valid .edges (h .edge) (h .among) .source) in
+          let v = rw (h .which) at (formed .edges (h .edge) (h .among) .source) in
           Memᴰ·cast (h .from)
           (value-at Part p ks (h .edge .source .occurrence) (h .edge .source .attribute) w
-          (rw (length-rights g valid p) (v .occurrence)) (v .attribute))
+          (rw (length-rights g formed p) (v .occurrence)) (v .attribute))
 
       mutual
         pub source-there : (t : Tree) → Complete g Part t → (x y : Instance) → TreeEdge g t x y → List·Memᴰ x (instances g t)
@@ -115,23 +115,23 @@ module _ (g : Grammar) where
     pub given-free : (t : Tree) (a : ℕ) (x : Instance) → given g t (here a) ≡ true → ¬ TreeEdge g t x (here a)
     given-free (node p ks) a x k (Joined.own o) =
         not-target p a (o .edge .target .occurrence) (o .edge .target .attribute) (o .to)
-        (rw (o .which) at (valid .edges (o .edge) (o .among) .allowed)) (eqb-true _ _ k)
+        (rw (o .which) at (formed .edges (o .edge) (o .among) .allowed)) (eqb-true _ _ k)
 
 -- ---- an uncomputed source is found, or there is none
 
 -- an uncomputed x of a kind H, or the knowledge that all of the kind are computed
-abbrev pub Search : (Instance → Type 0) → State Instance → Type 0
+abbrev pub Search : (Instance → Type 0) → Computed Instance → Type 0
 Search H c = ((x : Instance) × H x × (c x ≡ false)) ⊎ ((x : Instance) → H x → c x ≡ true)
 
 either :
-    {E F H : Instance → Type 0} (c : State Instance)
+    {E F H : Instance → Type 0} (c : Computed Instance)
     → ((x : Instance) → E x → H x) → ((x : Instance) → F x → H x) → ((x : Instance) → H x → E x ⊎ F x)
     → Search E c → Search F c → Search H c
 either c f g k (inl (x, e, u)) s = inl (x, f x e, u)
 either c f g k (inr h) (inl (x, e, u)) = inl (x, g x e, u)
 either c f g k (inr h) (inr l) = inr (λ x e. ⊎-elim (h x) (l x) (k x e))
 
-module _ (p : ℕ) (c : State Instance) (y : Instance) where
+module _ (p : ℕ) (c : Computed Instance) (y : Instance) where
   -- the edge e belongs to p and leads from x to y
   record Placed (e : Edge) (x : Instance) : Type 0 where
     which : e .production ≡ p
@@ -139,7 +139,7 @@ module _ (p : ℕ) (c : State Instance) (y : Instance) where
     to : y ≡ instanceOf (e .target)
 
   find-one : (e : Edge) → Search (Placed e) c
-  find-one e = by (ℕ-discrete (e .production) p) (same y (instanceOf (e .target))) (c (instanceOf (e .source))) refl
+  find-one e = by (ℕ-discrete (e .production) p) (sameInstance y (instanceOf (e .target))) (c (instanceOf (e .source))) refl
     where
       by :
           Dec (e .production ≡ p) → Dec (y ≡ instanceOf (e .target)) → (b : Bool) → c (instanceOf (e .source)) ≡ b → Search (Placed e) c
@@ -161,7 +161,7 @@ module _ (p : ℕ) (c : State Instance) (y : Instance) where
       by x h (inl q) = inl (subst (λ (d : Edge). Placed d x) q (record { which = h .which; from = h .from; to = h .to }))
       by x h (inr m) = inr (record { edge = h .edge; among = m; which = h .which; from = h .from; to = h .to })
 
-module _ (O : Instance → Instance → Type 0) (K : ℕ → Instance → Instance → Type 0) (c : State Instance) where
+module _ (O : Instance → Instance → Type 0) (K : ℕ → Instance → Instance → Type 0) (c : Computed Instance) where
   only-own : (b : ℕ) → ((x : Instance) → O x (here b) → c x ≡ true) → (x : Instance) → Joined O K x (here b) → c x ≡ true
   only-own b f x (Joined.own o) = f x o
 
@@ -186,11 +186,11 @@ module _ (O : Instance → Instance → Type 0) (K : ℕ → Instance → Instan
 
 module _ (g : Grammar) where
   mutual
-    pub find : (t : Tree) (c : State Instance) (y : Instance) → Search (λ x. TreeEdge g t x y) c
+    pub find : (t : Tree) (c : Computed Instance) (y : Instance) → Search (λ x. TreeEdge g t x y) c
     find (node p ks) c y =
         find-joined (Own g p) (KidEdge g ks) c y (find-among p c y (g .edges)) (λ j v. find-kid ks j (λ x. c (under j x)) v)
 
-    find-kid : (ks : Kids) (i : ℕ) (c : State Instance) (y : Instance) → Search (λ x. KidEdge g ks i x y) c
+    find-kid : (ks : Kids) (i : ℕ) (c : Computed Instance) (y : Instance) → Search (λ x. KidEdge g ks i x y) c
     find-kid nil i c y = inr (λ x e. absurd e)
     find-kid (cons t ks) zero c y = find t c y
     find-kid (cons t ks) (suc i) c y = find-kid ks i c y

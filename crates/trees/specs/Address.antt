@@ -29,7 +29,7 @@ pub data Subtree : Tree → List ℕ → Tree → Type 0 where
   down : {p i : ℕ} {ks : Kids} {t s : Tree} {d : List ℕ} → Kid ks i t → Subtree t d s → Subtree (node p ks) (i ∷ d) s
 
 -- a node stands at the address of x, and the left symbol of its production has x's attribute
-pub record Stands (g : Grammar) (t : Tree) (x : Instance) : Type 0 where
+pub record HasValue (g : Grammar) (t : Tree) (x : Instance) : Type 0 where
   pub p : ℕ
   pub ks : Kids
   pub node-there : Subtree t (address x) (node p ks)

@@ -1,5 +1,4 @@
 -- Finite complete trees, their attribute graphs and circles; evaluators; the trees that a derivation record shows.
-pub mod Lists
 pub mod Tree
 pub mod Address
 pub mod Compound

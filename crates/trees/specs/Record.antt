@@ -5,6 +5,7 @@ use Prim.Native.Nat.{ℕ, zero, suc, _<_}
 use Rattle.numbers.specs.Lists.{upFrom}
 use Rattle.numbers.specs.Paths.{Circle}
 use Rattle.grammar.specs.Grammar.{Grammar, production, rights}
+use Rattle.grammar.specs.Fits.{Fits}
 use Rattle.trees.specs.Tree.{Tree, node, Kids, nil, cons, rootSymbol, Complete}
 use Rattle.trees.specs.Compound.{OverGraphs, Makes, IsGraph}
 
@@ -36,11 +37,8 @@ module _ {Graph : Type 0} (entry : ℕ → Entry Graph) where
   shown p ks = node p (row shownEntry ks)
 
   -- one number below n for each right symbol, of an entry with that symbol
-  abbrev pub Fits : ℕ → List ℕ → List ℕ → Type 0
-  Fits n [] [] = Unit {0}
-  Fits n [] (s ∷ ss) = ⊥
-  Fits n (k ∷ ks) [] = ⊥
-  Fits n (k ∷ ks) (s ∷ ss) = (k < n) × (entry k .symbol ≡ s) × Fits n ks ss
+  abbrev pub Combination : ℕ → List ℕ → List ℕ → Type 0
+  Combination n = Fits (λ k. k < n) (λ k. entry k .symbol)
 
   abbrev pub graphs : List ℕ → List Graph
   graphs = map (λ k. entry k .graph)
@@ -72,14 +70,14 @@ module _ (g : Grammar) {Graph : Type 0} (Holds : Graph → ℕ → ℕ → Type 
     pub record Derived (k : ℕ) : Type 0 where
       pub part : Part (entry k .production)
       pub left : production g (entry k .production) .left ≡ entry k .symbol
-      pub right : Fits entry k (entry k .kids) (rights (production g (entry k .production)))
+      pub right : Combination entry k (entry k .kids) (rights (production g (entry k .production)))
       pub made : Makes g Holds (entry k .production) (graphs entry (entry k .kids)) (entry k .graph)
 
     -- each production that takes part, over each combination of the first `count` entries, has no circle, and what it makes is stored
     pub record Saturated (count : ℕ) : Type 0 where
       pub no-circle :
-          (p : ℕ) → Part p → (ks : List ℕ) → Fits entry count ks (rights (production g p))
+          (p : ℕ) → Part p → (ks : List ℕ) → Combination entry count ks (rights (production g p))
           → ¬ Circle (OverGraphs g Holds p (graphs entry ks))
       pub stored :
-          (p : ℕ) → Part p → (ks : List ℕ) → Fits entry count ks (rights (production g p))
+          (p : ℕ) → Part p → (ks : List ℕ) → Combination entry count ks (rights (production g p))
           → Stored entry count (production g p .left) (Makes g Holds p (graphs entry ks))

@@ -52,8 +52,8 @@ pub data Instance : Type 0 where
   under : ℕ → Instance → Instance
   deriving Discrete as Instance-discrete
 
-unfoldable pub same : Discrete Instance
-same = Instance-discrete ℕ-discrete
+unfoldable pub sameInstance : Discrete Instance
+sameInstance = Instance-discrete ℕ-discrete
 
 -- attribute a of the occurrence o of the root's production: 0 is the root itself, i + 1 the root of its i-th subtree
 abbrev pub at : ℕ → ℕ → Instance
@@ -113,7 +113,7 @@ Circular g Part = (t : Tree) × Complete g Part t × Circle (TreeEdge g t)
 
 -- ---- what is asked of a grammar; the rules of the table give it
 
-pub record Valid (g : Grammar) : Type 0 where
+pub record WellFormed (g : Grammar) : Type 0 where
   -- each right symbol has its slot
   pub slots : (p : Production) → List·Memᴰ p (g .productions) → p .n ≤ length (p .slots)
   pub edges : (e : Edge) → List·Memᴰ e (g .edges) → GoodEdge g e

@@ -10,19 +10,19 @@ use Rattle.numbers.specs.Paths.{Circle}
 use Rattle.grammar.specs.Grammar.{Grammar, production, edgesOf}
 use Rattle.graph.specs.Compound.{EdgesWithin}
 use Rattle.graph.proofs.Compound.{compound-circle, compound-root}
-use Rattle.trees.specs.Tree.{Valid, AtMost}
+use Rattle.trees.specs.Tree.{WellFormed, AtMost}
 use Rattle.trees.specs.Compound.{OverGraphs, Makes, NumberHolds}
 use Rattle.trees.proofs.Numbers.{source-below, target-below, own-edge, numbered-circles, numbered-makes}
 use Rattle.rules.specs.Test.{systemOf}
 
-module _ (w : ℕ) (g : Grammar) (valid : Valid g) (few : AtMost w g) (p : ℕ) (graphs : List ℕ)
+module _ (w : ℕ) (g : Grammar) (formed : WellFormed g) (few : AtMost w g) (p : ℕ) (graphs : List ℕ)
     (count : length graphs ≡ production g p .n) where
   within : EdgesWithin w (length graphs) (edgesOf g p)
   within e m =
-      let k = own-edge w g valid few p graphs e m in
-      let h = valid .edges e (k .0) in (
-        record { occurrence = rw (count, ← k .1) (h .source .occurrence); attribute = source-below w g valid few p graphs e (k .0) },
-        record { occurrence = rw (count, ← k .1) (h .target .occurrence); attribute = target-below w g valid few p graphs e (k .0) },
+      let k = own-edge w g formed few p graphs e m in
+      let h = formed .edges e (k .0) in (
+        record { occurrence = rw (count, ← k .1) (h .source .occurrence); attribute = source-below w g formed few p graphs e (k .0) },
+        record { occurrence = rw (count, ← k .1) (h .target .occurrence); attribute = target-below w g formed few p graphs e (k .0) },
       )
 
   -- the circle test finds a circle exactly if the compound graph has one
@@ -30,12 +30,12 @@ module _ (w : ℕ) (g : Grammar) (valid : Valid g) (few : AtMost w g) (p : ℕ) 
   unfolding systemOf
   circle-so =
       let c = compound-circle w (edgesOf g p) graphs within in
-      let n = numbered-circles w g valid few p graphs in
+      let n = numbered-circles w g formed few p graphs in
       (λ h. n .1 (c .0 h), λ h. c .1 (n .0 h))
 
   -- the root's number is what the production makes of the graphs
   pub graph-so : Makes g (NumberHolds w) p graphs (systemOf w g .graph p graphs)
   unfolding systemOf
   graph-so =
-      numbered-makes w g valid few p graphs (systemOf w g .graph p graphs)
+      numbered-makes w g formed few p graphs (systemOf w g .graph p graphs)
       (compound-root w (edgesOf g p) graphs within)

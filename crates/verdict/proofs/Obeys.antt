@@ -12,7 +12,7 @@ use Rattle.grammar.specs.Grammar.{production}
 use Rattle.grammar.specs.Table.{P, atProductions, productionIn, grammarOf}
 use Rattle.grammar.specs.Refusal.{refusal}
 use Rattle.grammar.proofs.Valid.{valid}
-use Rattle.trees.specs.Tree.{Valid, AtMost}
+use Rattle.trees.specs.Tree.{WellFormed, AtMost}
 
 -- a production of a table has seven slots
 seven-slots : (bs : List ℕ) (i : ℕ) → length (productionIn bs i .slots) ≡ 7
@@ -25,7 +25,7 @@ slots-there bs p m =
     let r = Memᴰ·of-map (λ i. productionIn bs (atProductions bs + 18 * i)) (upFrom 0 (P bs)) m in
     ap (λ (q : Production). length (q .slots)) (sym (r .2)) ∙ seven-slots bs (atProductions bs + 18 * r .0)
 
-pub obeys : (w : ℕ) (bs : List ℕ) → refusal w bs ≡ 0 → Valid (grammarOf bs) × AtMost w (grammarOf bs)
+pub obeys : (w : ℕ) (bs : List ℕ) → refusal w bs ≡ 0 → WellFormed (grammarOf bs) × AtMost w (grammarOf bs)
 obeys w bs e =
     let v = valid w bs e in (
       record {

@@ -6,10 +6,9 @@ use mathlib.Core.Logic.{⊎-elim}
 use Prim.Native.Nat.{ℕ, _*_, _^_, _≤_, _<_}
 use native.Mathlib.Omega.{arith}
 use lib.ListN.{length}
-use Rattle.numbers.specs.Lists.{upFrom}
+use Rattle.numbers.specs.Lists.{upFrom, Distinct}
 use Rattle.grammar.specs.Grammar.{Grammar}
-use Rattle.trees.specs.Lists.{Distinct}
-use Rattle.trees.specs.Tree.{InTable, Valid, AtMost}
+use Rattle.trees.specs.Tree.{InTable, WellFormed, AtMost}
 use Rattle.trees.specs.Compound.{NumberHolds}
 use Rattle.trees.specs.Record as record-of-trees
 use Rattle.trees.specs.Record.{pairs, OfTree}
@@ -24,7 +23,7 @@ use Rattle.orders.specs.Stored.{In, Made, Different, Holds}
 use Rattle.verdict.specs.Demands.{told}
 use Rattle.verdict.proofs.Trees.{small, all-derived, next-tree}
 
-module _ (w : ℕ) (g : Grammar) (valid : Valid g) (few : AtMost w g) (es : List Entry)
+module _ (w : ℕ) (g : Grammar) (formed : WellFormed g) (few : AtMost w g) (es : List Entry)
     (made : (k : ℕ) → k < length es → Made (systemOf w g) (In (byNumber g)) es k (entry es k)) (different : Different es) where
   -- the number of a graph of some tree, with its root symbol
   abbrev pub Pair : ℕ × ℕ → Type 0
@@ -40,14 +39,14 @@ module _ (w : ℕ) (g : Grammar) (valid : Valid g) (few : AtMost w g) (es : List
   pairAt k = (entry es k .symbol, entry es k .graph)
 
   low : (k : ℕ) → k < length es → entry es k .graph < 2 ^ (w * w)
-  low k l = small w g valid few es k (entry es k) (made k l)
+  low k l = small w g formed few es k (entry es k) (made k l)
 
   pub stored-pairs : (q : ℕ × ℕ) → List·Memᴰ q (pairs (told g es) (length es)) → Pair q
   stored-pairs q m =
       let r = Memᴰ·of-map pairAt (upFrom 0 (length es)) m in
       let l : r .0 < length es = omega (arith, upFrom-mem 0 (length es) (r .1) .1) in (
         subst (λ (z : ℕ × ℕ). z .1 < 2 ^ (w * w)) (r .2) (low (r .0) l),
-        pairs-of-trees (told g es) (length es) g (NumberHolds w) (InTable g) (all-derived w g valid few es made) q m,
+        pairs-of-trees (told g es) (length es) g (NumberHolds w) (InTable g) (all-derived w g formed few es made) q m,
       )
 
   -- a saturated store
@@ -73,7 +72,7 @@ module _ (w : ℕ) (g : Grammar) (valid : Valid g) (few : AtMost w g) (es : List
     omega (arith, length-pairs (told g es) (length es)),
     λ q k.
         ⊎-elim
-        (λ h. subst Pair (sym h) (small w g valid few es (length es) e m, next-tree w g valid few es made e m))
+        (λ h. subst Pair (sym h) (small w g formed few es (length es) e m, next-tree w g formed few es made e m))
         (stored-pairs q)
         (List·Memᴰ·cases-cons k),
   )

@@ -2,14 +2,14 @@
 -- number w of attributes, for any outcome that is sound. Assumes nothing.
 use mathlib.Core.Path.{_≡_, sym, _∙_, subst}
 use mathlib.Core.Bool.{true≢false}
-use mathlib.Core.List.{List, [], _∷_, List·Memᴰ}
+use mathlib.Core.List.{List, List·Memᴰ}
 use Prim.Native.Nat.{ℕ, _*_, _^_, _<_}
 use native.Mathlib.Omega.{arith}
 use lib.ListN.{length}
 use Rattle.numbers.specs.Paths.{Circle}
 use Rattle.grammar.specs.Grammar.{Grammar, production, rights}
 use Rattle.graph.proofs.Root.{root-lt}
-use Rattle.trees.specs.Tree.{Complete, InTable, TreeEdge, Valid, AtMost}
+use Rattle.trees.specs.Tree.{Complete, InTable, TreeEdge, WellFormed, AtMost}
 use Rattle.trees.specs.Compound.{Makes, NumberHolds}
 use Rattle.trees.specs.Record as record-of-trees
 use Rattle.trees.specs.Record.{shownEntry, shown, Derived, Shows, OfTree}
@@ -30,41 +30,28 @@ module _ (g : Grammar) where
   pub by-number : (p : ℕ) → InTable g p → In (byNumber g) p
   by-number p h = upFrom-at 0 (length (g .productions)) p (omega arith) (omega arith)
 
-  module _ (es : List Entry) (n : ℕ) where
-    pub fits-told : (c ss : List ℕ) → Combination es n c ss → record-of-trees.Fits (told g es) n c ss
-    fits-told [] [] f = tt
-    fits-told [] (s ∷ ss) f = absurd f
-    fits-told (k ∷ c) [] f = absurd f
-    fits-told (k ∷ c) (s ∷ ss) (l, e, f) = (l, e, fits-told c ss f)
-
-    pub told-fits : (c ss : List ℕ) → record-of-trees.Fits (told g es) n c ss → Combination es n c ss
-    told-fits [] [] f = tt
-    told-fits [] (s ∷ ss) f = absurd f
-    told-fits (k ∷ c) [] f = absurd f
-    told-fits (k ∷ c) (s ∷ ss) (l, e, f) = (l, e, told-fits c ss f)
-
-module _ (w : ℕ) (g : Grammar) (valid : Valid g) (few : AtMost w g) where
+module _ (w : ℕ) (g : Grammar) (formed : WellFormed g) (few : AtMost w g) where
   abbrev W : System
   W = systemOf w g
 
   -- a combination has a graph for each right symbol
   counted : (es : List Entry) (n p : ℕ) (c : List ℕ) → Combination es n c (rights (production g p)) → length (graphs es c) ≡ production g p .n
-  counted es n p c f = graphs-count g valid (told g es) n p c (fits-told g es n c (rights (production g p)) f)
+  counted es n p c f = graphs-count g formed (told g es) n p c f
 
   -- what is made of entries: the graph that its production makes of theirs, a number of w * w bits
   module _ (es : List Entry) (n : ℕ) (e : Entry) (m : Made (systemOf w g) (In (byNumber g)) es n e) where
     abbrev kids : List ℕ
     kids = kidsOf g (e .production) (e .kids)
 
-    made-fits : record-of-trees.Fits (told g es) n (kidsOf g (e .production) (e .kids)) (rights (production g (e .production)))
+    made-fits : record-of-trees.Combination (told g es) n (kidsOf g (e .production) (e .kids)) (rights (production g (e .production)))
     unfolding systemOf
-    made-fits = fits-told g es n kids (rights (production g (e .production))) (m .kids .fits)
+    made-fits = m .kids .fits
 
     made-graph : Makes g (NumberHolds w) (e .production) (graphs es (kidsOf g (e .production) (e .kids))) (e .graph)
     unfolding systemOf
     made-graph =
         subst (Makes g (NumberHolds w) (e .production) (graphs es kids)) (sym (m .graph))
-        (graph-so w g valid few (e .production) (graphs es kids) (counted es n (e .production) kids (m .kids .fits)))
+        (graph-so w g formed few (e .production) (graphs es kids) (counted es n (e .production) kids (m .kids .fits)))
 
     made-left : production g (e .production) .left ≡ e .symbol
     unfolding systemOf
@@ -110,9 +97,9 @@ module _ (w : ℕ) (g : Grammar) (valid : Valid g) (few : AtMost w g) where
 
     -- the tree that a circular root shows
     module _ (p : ℕ) (slots : List ℕ) (root : Root (systemOf w g) (In (byNumber g)) es p slots) where
-      root-fits : record-of-trees.Fits (told g es) (length es) (kidsOf g p slots) (rights (production g p))
+      root-fits : record-of-trees.Combination (told g es) (length es) (kidsOf g p slots) (rights (production g p))
       unfolding systemOf
-      root-fits = fits-told g es (length es) (kidsOf g p slots) (rights (production g p)) (root .kids .fits)
+      root-fits = root .kids .fits
 
       pub root-earlier : (j : ℕ) → List·Memᴰ j (kidsOf g p slots) → j < length es
       root-earlier = fits-below (told g es) (length es) (kidsOf g p slots) (rights (production g p)) root-fits
@@ -127,7 +114,7 @@ module _ (w : ℕ) (g : Grammar) (valid : Valid g) (few : AtMost w g) where
       root-circle =
           shown-circle g (NumberHolds w) (InTable g) (told g es) (length es) all-derived p (kidsOf g p slots)
           (in-table g p (root .kids .part)) root-fits
-          (circle-so w g valid few p (graphs es (kidsOf g p slots)) (counted es (length es) p (kidsOf g p slots) (root .kids .fits)) .0
+          (circle-so w g formed few p (graphs es (kidsOf g p slots)) (counted es (length es) p (kidsOf g p slots) (root .kids .fits)) .0
           (root .round))
 
   -- a store to which nothing is left to add
@@ -136,18 +123,16 @@ module _ (w : ℕ) (g : Grammar) (valid : Valid g) (few : AtMost w g) where
   unfolding systemOf
   saturated es s = record {
     no-circle = λ p part c f h.
-        let k = told-fits g es (length es) c (rights (production g p)) f in
         true≢false
-        (sym (circle-so w g valid few p (graphs es c) (counted es (length es) p c k) .1 h) ∙ s p (by-number g p part) c k .0);
+        (sym (circle-so w g formed few p (graphs es c) (counted es (length es) p c f) .1 h) ∙ s p (by-number g p part) c f .0);
     stored = λ p part c f.
-        let k = told-fits g es (length es) c (rights (production g p)) f in
-        let h = s p (by-number g p part) c k .1 in
+        let h = s p (by-number g p part) c f .1 in
         record {
           number = h .number;
           among = h .among;
           symbol = h .symbol;
           graph =
               subst (Makes g (NumberHolds w) p (graphs es c)) (sym (h .graph))
-              (graph-so w g valid few p (graphs es c) (counted es (length es) p c k));
+              (graph-so w g formed few p (graphs es c) (counted es (length es) p c f));
         };
   }

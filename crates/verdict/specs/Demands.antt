@@ -7,14 +7,14 @@ use mathlib.Core.Logic.{_↔_}
 use mathlib.Core.Path.{_≡_}
 use Prim.Native.Nat.{ℕ, _+_, _^_, _≤_, _<_}
 use lib.ListN.{length, take}
+use Rattle.numbers.specs.Lists.{Distinct}
 use Rattle.numbers.specs.Paths.{Circle}
 use Rattle.grammar.specs.Grammar.{Grammar, production, rights}
 use Rattle.grammar.specs.Table.{grammarOf}
 use Rattle.grammar.specs.Rules.{Breaks}
-use Rattle.trees.specs.Lists.{Distinct}
 use Rattle.trees.specs.Tree.{Tree, Instance, Complete, InTable, TreeEdge, instances}
 use Rattle.trees.specs.Compound.{NumberHolds}
-use Rattle.trees.specs.Evaluator.{State, left, given, MayTake, StandsStill, Reached, Evaluator}
+use Rattle.trees.specs.Evaluator.{Computed, left, given, MayTake, StandsStill, Reached, Evaluator}
 use Rattle.trees.specs.Record as record-of-trees
 use Rattle.trees.specs.Record.{shownEntry, shown, pairs, OfTree}
 use Rattle.rules.specs.declared.Answer.{Answer}
@@ -153,17 +153,17 @@ RoomCountsAlways v =
 -- in whatever state it is, a value that is left over has company: some value may be taken; so who stands still has computed all
 pub record NeverStill (bs : List ℕ) (t : Tree) : Type 0 where
   pub goes-on :
-      (c : State Instance) (y : Instance) → List·Memᴰ y (instances (grammarOf bs) t) → c y ≡ false
+      (c : Computed Instance) (y : Instance) → List·Memᴰ y (instances (grammarOf bs) t) → c y ≡ false
       → (z : Instance) × MayTake (grammarOf bs) t c z
   pub all-computed :
-      {n : ℕ} {d : State Instance} → Reached (grammarOf bs) t n d → StandsStill (grammarOf bs) t d
+      {n : ℕ} {d : Computed Instance} → Reached (grammarOf bs) t n d → StandsStill (grammarOf bs) t d
       → (y : Instance) → List·Memᴰ y (instances (grammarOf bs) t) → d y ≡ true
   -- each taking leaves one value less; so it ends, after as many takings as there are values that were not given
   pub counts :
-      {n : ℕ} {d : State Instance} → Reached (grammarOf bs) t n d
+      {n : ℕ} {d : Computed Instance} → Reached (grammarOf bs) t n d
       → n + left d (instances (grammarOf bs) t) ≡ left (given (grammarOf bs) t) (instances (grammarOf bs) t)
   pub ends :
-      {n : ℕ} {d : State Instance} → Reached (grammarOf bs) t n d → StandsStill (grammarOf bs) t d
+      {n : ℕ} {d : Computed Instance} → Reached (grammarOf bs) t n d → StandsStill (grammarOf bs) t d
       → n ≡ left (given (grammarOf bs) t) (instances (grammarOf bs) t)
 
 -- after noncircular: on any tree
@@ -174,11 +174,11 @@ NeverStillAlways v =
 -- whatever an evaluator has reached, a value is left over, and it comes to stand still; and there is an evaluator
 pub record StandsStillLeft (bs : List ℕ) (t : Tree) : Type 0 where
   pub left-over :
-      {n : ℕ} {d : State Instance} → Reached (grammarOf bs) t n d
+      {n : ℕ} {d : Computed Instance} → Reached (grammarOf bs) t n d
       → (y : Instance) × List·Memᴰ y (instances (grammarOf bs) t) × (d y ≡ false)
   pub stands :
-      Evaluator (grammarOf bs) t → (n : ℕ) × (d : State Instance) × Reached (grammarOf bs) t n d × StandsStill (grammarOf bs) t d
-  pub ends : {n : ℕ} {d : State Instance} → Reached (grammarOf bs) t n d → n ≤ length (instances (grammarOf bs) t)
+      Evaluator (grammarOf bs) t → (n : ℕ) × (d : Computed Instance) × Reached (grammarOf bs) t n d × StandsStill (grammarOf bs) t d
+  pub ends : {n : ℕ} {d : Computed Instance} → Reached (grammarOf bs) t n d → n ≤ length (instances (grammarOf bs) t)
   pub some : Evaluator (grammarOf bs) t
 
 -- after circular: on the shown tree
