@@ -15,7 +15,7 @@ use Rattle.orders.specs.Stored.{In, Fits, Root, Saturated}
 use Rattle.orders.specs.Answers.{Says, Sound, StepsCompared, RoomCompared, OneStored, Verdict, reached, Passed}
 use Rattle.orders.specs.Claims.{OutcomeSound, TurnsStay, FuelSuffices, StepsExactly, RoomExactly, OneMore, VerdictStands, MoreRoom}
 use Rattle.orders.specs.Modes.{Candidate, AllSettled}
-use Rattle.orders.specs.Plans.{Plan, end, End, run, outcomeOf, turnsPlan}
+use Rattle.orders.specs.Plans.{Plan, end, End, run, outcomeOf, turnsPlan, afterPass, passesPlan}
 use Rattle.orders.proofs.Combinations.{fits-map, combinations-at, combinations-fit}
 use Rattle.orders.proofs.Points.{run-over}
 use Rattle.orders.proofs.Limits.{Ended, ended, any-steps-exactly, any-room-exactly, any-one-more, any-verdict-stands}
@@ -23,7 +23,7 @@ use Rattle.orders.proofs.Kept.{kept-start}
 use Rattle.orders.proofs.Turns.{Good, Always, always-passes}
 use Rattle.orders.proofs.Sound.{Tells, Told, any-run-told}
 use Rattle.orders.proofs.Plain.{plain, plain-lawful, holds-covered, covered-holds}
-use Rattle.orders.proofs.Link.{thenEnds, offers, planFrom, runFrom, run-pass, run-passes}
+use Rattle.orders.proofs.Link.{thenEnds, offers, planFrom, runFrom, run-pass}
 
 -- ---- turns, from any state
 pub turns-stay : TurnsStay
@@ -40,6 +40,11 @@ turns-stay W ps L R s h k =
         record { stays = w .stays; counts = w .counts; closures = w .closures; entries = w .entries }
 
 -- ---- the fuel
+-- a pass that stores something leaves less room
+longer-by : (s t : State) {L R : ℕ} → Passed L R s t → (length (t .entries) ≡ length (s .entries) → ⊥)
+    → length (s .entries) < length (t .entries)
+longer-by s t z d = omega (arith, ap length (z .stays .1), length-append (s .entries) (z .stays .0))
+
 same-fuel : (W : System) (ps : List ℕ) (L R f g n : ℕ) (s : State) → s .made ≤ L → length (s .entries) ≤ R
     → R - length (s .entries) < f → R - length (s .entries) < g → passesFrom W L R f ps n s ≡ passesFrom W L R g ps n s
 unfolding passesFrom
@@ -59,13 +64,38 @@ same-fuel W ps L R (suc f) (suc g) n s h k a b = go (pass W L R ps s) (turns-sta
             ≡ cond c (outcome Noncircular noRoot t (suc n)) (passesFrom W L R g ps (suc n) t)
         by true e = refl
         by false e =
-            let d : length (t .entries) ≡ length (s .entries) → ⊥ = eqb-false (length (t .entries)) (length (s .entries)) e in
-            let l = ap length (z .stays .1) ∙ length-append (s .entries) (z .stays .0) in
+            let l = longer-by s t z (eqb-false (length (t .entries)) (length (s .entries)) e) in
             ih t (z .closures) (z .entries) (omega (arith, z .entries)) (omega (arith, z .entries))
 
 pub fuel-suffices : FuelSuffices
 unfolding passes
 fuel-suffices W ps L R fuel h = same-fuel W ps L R fuel (suc R) 0 empty (omega arith) (omega arith) (omega arith) (omega arith)
+
+-- with enough fuel the passes are the run of their plan: a pass that stores something leaves less room, so the fuel is never used up
+run-passes : (W : System) (ps : List ℕ) (L R fuel n : ℕ) (s : State) → s .made ≤ L → length (s .entries) ≤ R
+    → R - length (s .entries) < fuel
+    → passesFrom W L R fuel ps n s ≡ outcomeOf (plain W) (runFrom W L R (planFrom W fuel ps n) s)
+unfolding passesFrom passesPlan run
+run-passes W ps L R zero n s h k l = absurd (omega arith)
+run-passes W ps L R (suc fuel) n s h k l =
+    go (pass W L R ps s) (turns-stay W ps L R s h k) (run-passes W ps L R fuel (suc n))
+    ∙ ap (outcomeOf (plain W)) (sym (run-pass W L R (suc n) ps afterwards s))
+  where
+    afterwards : List Entry → Plan (List Entry)
+    afterwards = afterPass (offers W) length (suc n) (length (s .entries)) (planFrom W fuel ps (suc n))
+
+    go : (r : Ran) → Passed L R s (reached r)
+        → ((t : State) → t .made ≤ L → length (t .entries) ≤ R → R - length (t .entries) < fuel
+        → passesFrom W L R fuel ps (suc n) t ≡ outcomeOf (plain W) (runFrom W L R (planFrom W fuel ps (suc n)) t))
+        → after s (suc n) r (passesFrom W L R fuel ps (suc n)) ≡ outcomeOf (plain W) (thenEnds (suc n) r (runFrom W L R afterwards))
+    go (stopped a root t) z ih = refl
+    go (going t) z ih = by (eqb (length (t .entries)) (length (s .entries))) refl
+      where
+        by : (b : Bool) → eqb (length (t .entries)) (length (s .entries)) ≡ b
+            → cond b (outcome Noncircular noRoot t (suc n)) (passesFrom W L R fuel ps (suc n) t)
+            ≡ outcomeOf (plain W) (runFrom W L R (λ es. cond b (end (suc n)) (planFrom W fuel ps (suc n) es)) t)
+        by true e = refl
+        by false e = ih t (z .closures) (z .entries) (omega (arith, z .entries, longer-by s t z (eqb-false _ _ e)))
 
 -- ---- the passes are the run of their plan, with any fuel that is enough
 abbrev planOf : System → List ℕ → ℕ → Plan (List Entry)
@@ -75,7 +105,7 @@ abbrev runOf : System → List ℕ → ℕ → ℕ → ℕ → End (List Entry)
 runOf W ps fuel L R = run (plain W) L R (planOf W ps fuel) [] 0
 
 passes-run : (W : System) (ps : List ℕ) (L R fuel : ℕ) → R < fuel → passes W L R ps ≡ outcomeOf (plain W) (runOf W ps fuel L R)
-passes-run W ps L R fuel h = sym (fuel-suffices W ps L R fuel h) ∙ run-passes W L R fuel ps 0 empty
+passes-run W ps L R fuel h = sym (fuel-suffices W ps L R fuel h) ∙ run-passes W ps L R fuel 0 empty (omega arith) (omega arith) (omega arith)
 
 -- ---- what the outcome says
 module _ (W : System) (ps : List ℕ) (L R : ℕ) where

@@ -1,4 +1,4 @@
--- The rules' passes are the run of a plan in the plain mode. Assumes nothing.
+-- A pass of the rules is the run of a plan in the plain mode. Assumes nothing.
 use mathlib.Core.Path.{_≡_, refl, sym, ap, _∙_}
 use mathlib.Core.Bool.{Bool, true, false, cond}
 use mathlib.Core.List.{List, [], _∷_, _++_, map}
@@ -7,9 +7,10 @@ use lib.Dec.{leb, eqb}
 use lib.ListN.{length}
 use Rattle.rules.specs.declared.Answer.the-variants.{Noncircular}
 use Rattle.rules.specs.declared.Entry.{Entry}
-use Rattle.rules.specs.Passes.{System, State, Ran, going, stopped, andThen, numbered, seven, noRoot, candidates, combinations, graphs, known, six, counted, stored, try, tries, turn, pass, outcome, after, passesFrom}
+use Rattle.rules.specs.Passes.{System, State, Ran, going, stopped, andThen, numbered, seven, noRoot, candidates, combinations, graphs, known, stopIf, goOnIf, counted, stored, try, tries, turn, pass}
+use Rattle.rules.proofs.Steps.{byTests}
 use Rattle.orders.specs.Modes.{newEntry}
-use Rattle.orders.specs.Plans.{Plan, end, End, ends, tried, run, outcomeOf, triesPlan, turnsPlan, afterPass, passesPlan}
+use Rattle.orders.specs.Plans.{Plan, End, ends, tried, run, triesPlan, turnsPlan, passesPlan}
 use Rattle.orders.proofs.Plain.{judged, plain}
 
 -- after some of the pass number n
@@ -30,7 +31,7 @@ module _ (W : System) where
 
     run-tries : (n p : ℕ) (cs : List (List ℕ)) (f : List Entry → Plan (List Entry)) (s : State)
         → runFrom (triesPlan n p cs f) s ≡ thenEnds n (tries W L R p cs s) (runFrom f)
-    unfolding run tried triesPlan tries try six judged numbered
+    unfolding run tried triesPlan tries try stopIf goOnIf judged numbered
     run-tries n p [] f s = refl
     run-tries n p (c ∷ cs) f s =
         go (leb L (s .made)) (W .circle p (graphs (s .entries) c))
@@ -42,12 +43,12 @@ module _ (W : System) where
         go : (a b k d : Bool) → ((t : State) → runFrom (triesPlan n p cs f) t ≡ thenEnds n (tries W L R p cs t) (runFrom f))
             → tried a (judged b k (s .entries ++ (new ∷ []))) d n p c (s .entries) (s .made)
             (λ t m. run (plain W) L R (triesPlan n p cs f t) t m)
-            ≡ thenEnds n (andThen (six a b k d p (seven c) s (counted s) (stored new s)) (tries W L R p cs)) (runFrom f)
+            ≡ thenEnds n (andThen (byTests a b k d p (seven c) s (stored new (counted s))) (tries W L R p cs)) (runFrom f)
         go true b k d ih = refl
         go false true k d ih = refl
         go false false true d ih = ih (counted s)
         go false false false true ih = refl
-        go false false false false ih = ih (stored new s)
+        go false false false false ih = ih (stored new (counted s))
 
     pub run-pass : (n : ℕ) (ps : List ℕ) (f : List Entry → Plan (List Entry)) (s : State)
         → runFrom (turnsPlan offers n ps f) s ≡ thenEnds n (pass W L R ps s) (runFrom f)
@@ -60,23 +61,3 @@ module _ (W : System) where
             → thenEnds n r (runFrom (turnsPlan offers n ps f)) ≡ thenEnds n (andThen r (pass W L R ps)) (runFrom f)
         go (going t) ih = ih t
         go (stopped a root t) ih = refl
-
-    pub run-passes : (fuel : ℕ) (ps : List ℕ) (n : ℕ) (s : State)
-        → passesFrom W L R fuel ps n s ≡ outcomeOf (plain W) (runFrom (planFrom fuel ps n) s)
-    unfolding passesFrom passesPlan run
-    run-passes zero ps n s = refl
-    run-passes (suc fuel) ps n s =
-        go (pass W L R ps s) (run-passes fuel ps (suc n)) ∙ ap (outcomeOf (plain W)) (sym (run-pass (suc n) ps afterwards s))
-      where
-        afterwards : List Entry → Plan (List Entry)
-        afterwards = afterPass offers length (suc n) (length (s .entries)) (planFrom fuel ps (suc n))
-
-        go : (r : Ran) → ((t : State) → passesFrom W L R fuel ps (suc n) t ≡ outcomeOf (plain W) (runFrom (planFrom fuel ps (suc n)) t))
-            → after s (suc n) r (passesFrom W L R fuel ps (suc n)) ≡ outcomeOf (plain W) (thenEnds (suc n) r (runFrom afterwards))
-        go (stopped a root t) ih = refl
-        go (going t) ih = by (eqb (length (t .entries)) (length (s .entries)))
-          where
-            by : (b : Bool) → cond b (outcome Noncircular noRoot t (suc n)) (passesFrom W L R fuel ps (suc n) t)
-                ≡ outcomeOf (plain W) (runFrom (λ es. cond b (end (suc n)) (planFrom fuel ps (suc n) es)) t)
-            by true = refl
-            by false = ih t

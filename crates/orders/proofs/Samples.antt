@@ -6,7 +6,7 @@ use native.Mathlib.Omega.{arith}
 use lib.ListN.{length}
 use Rattle.rules.specs.declared.Answer.the-variants.{Noncircular, Circular, OutOfSteps, OutOfRoom}
 use Rattle.rules.specs.Passes.{Outcome, passes}
-use Rattle.rules.specs.Test.{opened}
+use Rattle.rules.specs.Opened.{opened}
 use Rattle.rules.proofs.Cases.{Line, lineOf as line}
 use Rattle.orders.specs.Stored.{In, Root, Saturated}
 use Rattle.orders.specs.Answers.{Verdict, OneStored}

@@ -16,7 +16,8 @@ use Rattle.steps.specs.declared.Task.{Task}
 use Rattle.steps.specs.declared.Verdict.{Verdict}
 use Rattle.steps.specs.declared.Verdict.the-variants.{Steps, Circle, Known, Full, New}
 use Rattle.graph.specs.Rows.{hasCircle, rootGraph}
-use Rattle.rules.specs.Passes.{State, Ran, going, stopped, andThen, numbered, noRoot, six, counted, stored, graphs, try}
+use Rattle.rules.specs.Passes.{State, Ran, going, stopped, andThen, numbered, noRoot, stopIf, goOnIf, counted, stored, graphs, try}
+use Rattle.rules.proofs.Steps.{byTests}
 use Rattle.rules.proofs.Stored.{length-seven}
 use Rattle.passes.specs.Slices.{Slices}
 use Rattle.steps.specs.Slices.{put, roomOf}
@@ -30,21 +31,21 @@ use Rattle.passes.proofs.Following.{kept-same, going-by}
 
 -- ---- the six steps by the verdict
 
-abbrev acted : Verdict → ℕ → List ℕ → State → State → (ℕ → State) → Ran
-acted Steps p root s t u = stopped (numbered 8) noRoot s
-acted Circle p root s t u = stopped (Circular p) root t
-acted Known p root s t u = going t
-acted Full p root s t u = stopped (numbered 9) noRoot t
-acted (New graph) p root s t u = going (u graph)
+abbrev acted : Verdict → ℕ → List ℕ → State → (ℕ → State) → Ran
+acted Steps p root s u = stopped (numbered 8) noRoot s
+acted Circle p root s u = stopped (Circular p) root (counted s)
+acted Known p root s u = going (counted s)
+acted Full p root s u = stopped (numbered 9) noRoot (counted s)
+acted (New graph) p root s u = going (u graph)
 
-six-acted : (a b c d : Bool) (g p : ℕ) (root : List ℕ) (s t : State) (u : ℕ → State)
-    → six a b c d p root s t (u g) ≡ acted (verdict a b c d g) p root s t u
-unfolding six verdict
-six-acted true b c d g p root s t u = refl
-six-acted false true c d g p root s t u = refl
-six-acted false false true d g p root s t u = refl
-six-acted false false false true g p root s t u = refl
-six-acted false false false false g p root s t u = refl
+by-verdict : (a b c d : Bool) (g p : ℕ) (root : List ℕ) (s : State) (u : ℕ → State)
+    → byTests a b c d p root s (u g) ≡ acted (verdict a b c d g) p root s u
+unfolding stopIf goOnIf verdict
+by-verdict true b c d g p root s u = refl
+by-verdict false true c d g p root s u = refl
+by-verdict false false true d g p root s u = refl
+by-verdict false false false true g p root s u = refl
+by-verdict false false false false g p root s u = refl
 
 -- no closure is left exactly if as many as the limit have been made
 none-left : (limit left : ℕ) → left ≤ limit → leb limit (limit - left) ≡ eqb left 0
@@ -90,7 +91,7 @@ module _ (k : Task) (rows : List ℕ) (σ : Slices) (r : Run) (picked : List ℕ
 
   -- what the six steps do at a verdict
   abbrev acts : Verdict → ℕ → Ran
-  acts v limit = acted v (k .number) picked (stateOf limit σ r) (counted (stateOf limit σ r)) (λ g. stored (new g) (stateOf limit σ r))
+  acts v limit = acted v (k .number) picked (stateOf limit σ r) (λ g. stored (new g) (counted (stateOf limit σ r)))
 
   picked-below : (i : ℕ) → i < length combo → getD combo i 0 < r .stored
   picked-below i l =
@@ -113,9 +114,9 @@ module _ (k : Task) (rows : List ℕ) (σ : Slices) (r : Run) (picked : List ℕ
         length-entries σ (r .stored),
         full-by (k .room) (r .stored) (ready .roomy .stored),
       )
-      (six-acted (eqb (r .left) 0) (hasCircle closed) (seenIn (σ .symbols) (σ .graphs) (k .symbol) (rootGraph 8 closed) (r .stored))
+      (by-verdict (eqb (r .left) 0) (hasCircle closed) (seenIn (σ .symbols) (σ .graphs) (k .symbol) (rootGraph 8 closed) (r .stored))
       (eqb (r .stored) (k .room)) (rootGraph 8 closed)
-      (k .number) picked (stateOf limit σ r) (counted (stateOf limit σ r)) (λ g. stored (new g) (stateOf limit σ r)))
+      (k .number) picked (stateOf limit σ r) (λ g. stored (new g) (counted (stateOf limit σ r))))
 
   -- nothing is stored
   quiet : (v : Verdict) (q : Run) → now ≡ v → q .stored ≡ r .stored → q .left ≤ r .left

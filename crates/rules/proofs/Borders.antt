@@ -3,7 +3,7 @@ use mathlib.Core.Path.{_≡_, refl}
 use mathlib.Core.List.{[], _∷_, _++_, map}
 use lib.ListN.{take, set}
 use Rattle.grammar.specs.Refusal.{refusal}
-use Rattle.rules.specs.Test.{opened}
+use Rattle.rules.specs.Opened.{opened}
 use Rattle.rules.specs.Small.{tableA, tableB}
 
 -- A itself; 23 bytes; one byte past the total; n = 7 and n = 8; an attribute count of 8 and of 9; no symbol; the start not below N;

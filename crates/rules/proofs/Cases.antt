@@ -10,7 +10,8 @@ use Rattle.rules.specs.declared.Answer.{Answer}
 use Rattle.rules.specs.declared.Answer.the-variants.{Noncircular, Circular, Refused, OutOfSteps, OutOfRoom}
 use Rattle.rules.specs.declared.Entry.{Entry}
 use Rattle.rules.specs.Passes.{numbered, numberOf, Outcome}
-use Rattle.rules.specs.Test.{test, opened}
+use Rattle.rules.specs.Test.{test}
+use Rattle.rules.specs.Opened.{opened}
 use Rattle.rules.specs.Small.{tableA, tableB, tableC, tableD, tableR, tableQ}
 
 -- a line of the table: the answer, the closures, the entries, the passes

@@ -14,8 +14,9 @@ use Rattle.grammar.specs.Refusal.{refusal}
 use Rattle.grammar.proofs.Lookups.{production-there, production-none, slots-are}
 use Rattle.rules.specs.declared.Answer.the-variants.{Noncircular}
 use Rattle.rules.specs.declared.Entry.{Entry}
-use Rattle.rules.specs.Passes.{System, State, Ran, going, stopped, andThen, seven, noRoot, numbered, candidates, prefixed, combinations, six, counted, try, tries, turn, pass, Outcome, outcome, after, empty, passesFrom, passes}
+use Rattle.rules.specs.Passes.{System, State, Ran, going, stopped, andThen, seven, noRoot, numbered, candidates, prefixed, combinations, stopIf, goOnIf, try, tries, turn, pass, Outcome, outcome, after, empty, passesFrom, passes}
 use Rattle.rules.specs.Test.{systemOf, byNumber, test}
+use Rattle.rules.proofs.Steps.{byTests}
 
 -- ---- every combination has a number for each right symbol
 
@@ -76,14 +77,14 @@ sound-more : (room : ℕ) (es : List Entry) (e : Entry) → Sound room es → le
 sound-more room es e h l k =
     record { fits = omega (arith, length-append es (e ∷ [])); slots = sevens-snoc es e (h .slots) k }
 
-sound-six : (room : ℕ) (b c k f : Bool) (p : ℕ) (root : List ℕ) (s u : State) → Sound room (s .entries)
-    → (f ≡ false → Sound room (u .entries)) → Sound room (reached (six b c k f p root s (counted s) u))
-unfolding six
-sound-six room true c k f p root s u h n = h
-sound-six room false true k f p root s u h n = h
-sound-six room false false true f p root s u h n = h
-sound-six room false false false true p root s u h n = h
-sound-six room false false false false p root s u h n = n refl
+sound-steps : (room : ℕ) (b c k f : Bool) (p : ℕ) (root : List ℕ) (s u : State) → Sound room (s .entries)
+    → (f ≡ false → Sound room (u .entries)) → Sound room (reached (byTests b c k f p root s u))
+unfolding stopIf goOnIf
+sound-steps room true c k f p root s u h n = h
+sound-steps room false true k f p root s u h n = h
+sound-steps room false false true f p root s u h n = h
+sound-steps room false false false true p root s u h n = h
+sound-steps room false false false false p root s u h n = n refl
 
 -- the report counts the entries, and they are sound
 pub record Counted (room : ℕ) (o : Outcome) : Type 0 where
@@ -95,7 +96,7 @@ module _ (W : System) (limit room : ℕ) (few : (p : ℕ) → length (W .rights 
       → Sound room (reached (try W limit room p combo s))
   unfolding try
   sound-try p combo s l h =
-      sound-six room _ _ _ _ p (seven combo) s _ h
+      sound-steps room _ _ _ _ p (seven combo) s _ h
       (λ n. sound-more room (s .entries) _ h (leb-false room (length (s .entries)) n) (length-seven combo l))
 
   sound-tries : (p n : ℕ) (combos : List (List ℕ)) (s : State) → n ≤ 7 → Each n combos → Sound room (s .entries)

@@ -2,3 +2,4 @@
 pub mod Passes
 pub mod Test
 pub mod Small
+pub mod Opened

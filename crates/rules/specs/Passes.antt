@@ -94,35 +94,43 @@ unfoldable pub known : ℕ → ℕ → List Entry → Bool
 known s graph [] = false
 known s graph (e ∷ es) = both (eqb (e .symbol) s) (same (e .graph) graph) || known s graph es
 
--- the six steps by their four tests: L closures have been made; the compound graph has a circle; the symbol with the graph is stored;
--- R entries are stored. Of the states `s` is the one before, `t` has the closure counted, `u` the entry stored too
-unfoldable pub six : Bool → Bool → Bool → Bool → ℕ → List ℕ → State → State → State → Ran
-six true round old full p root s t u = stopped (numbered 8) noRoot s
-six false true old full p root s t u = stopped (Circular p) root t
-six false false true full p root s t u = going t
-six false false false true p root s t u = stopped (numbered 9) noRoot t
-six false false false false p root s t u = going u
+-- out with an answer, the root's seven slots and a state where the test passes, else the rest
+unfoldable pub stopIf : Bool → Answer → List ℕ → State → Ran → Ran
+stopIf true a root s rest = stopped a root s
+stopIf false a root s rest = rest
+
+-- go on where the test passes, else the rest
+unfoldable pub goOnIf : Bool → State → Ran → Ran
+goOnIf true s rest = going s
+goOnIf false s rest = rest
 
 abbrev pub counted : State → State
 counted s = record { entries = s .entries; made = suc (s .made) }
 
 abbrev pub stored : Entry → State → State
-stored e s = record { entries = s .entries ++ (e ∷ []); made = suc (s .made) }
+stored e s = record { entries = s .entries ++ (e ∷ []); made = s .made }
 
 abbrev pub graphs : List Entry → List ℕ → List ℕ
 graphs es combo = map (λ i. entry es i .graph) combo
 
 module _ (W : System) (limit room : ℕ) where
-  -- one combination
+  -- one combination, step by step as they are numbered
   unfoldable pub try : ℕ → List ℕ → State → Ran
   try p combo s =
-      six (leb limit (s .made)) (W .circle p (graphs (s .entries) combo))
-      (known (W .left p) (W .graph p (graphs (s .entries) combo)) (s .entries))
-      (leb room (length (s .entries)))
-      p (seven combo) s (counted s)
-      (stored
-      (record { symbol = W .left p; graph = W .graph p (graphs (s .entries) combo); production = p; kids = seven combo })
-      s)
+      let gs = graphs (s .entries) combo in
+      let new : Entry = record { symbol = W .left p; graph = W .graph p gs; production = p; kids = seven combo } in
+      -- 1. if L closures have been made: out of steps
+      stopIf (leb limit (s .made)) (numbered 8) noRoot s
+      -- 2. make the closure and count it
+      (let t = counted s in
+      -- 3. if the compound graph has a circle: circular
+      stopIf (W .circle p gs) (Circular p) (seven combo) t
+      -- 4. if the same symbol with the same graph is stored: go on
+      (goOnIf (known (W .left p) (W .graph p gs) (t .entries)) t
+      -- 5. if R entries are stored: out of room
+      (stopIf (leb room (length (t .entries))) (numbered 9) noRoot t
+      -- 6. store the entry
+      (going (stored new t)))))
 
   unfoldable pub tries : ℕ → List (List ℕ) → State → Ran
   tries p [] s = going s
@@ -157,13 +165,17 @@ after old begun (stopped a root s) more = outcome a root s begun
 after old begun (going s) more =
     cond (eqb (length (s .entries)) (length (old .entries))) (outcome Noncircular noRoot s begun) (more s)
 
+-- where the passes would not end by themselves: no rule has the number 0, so no table is refused by it, and this is no answer of any
+abbrev pub unended : Answer
+unended = Refused 0
+
 abbrev pub empty : State
 empty = record { entries = []; made = 0 }
 
 module _ (W : System) (limit room : ℕ) where
   -- `fuel` more passes over ps at the most, where `begun` have begun
   unfoldable pub passesFrom : ℕ → List ℕ → ℕ → State → Outcome
-  passesFrom zero ps begun s = outcome Noncircular noRoot s begun
+  passesFrom zero ps begun s = outcome unended noRoot s begun
   passesFrom (suc fuel) ps begun s = after s (suc begun) (pass W limit room ps s) (passesFrom fuel ps (suc begun))
 
   -- each pass but the last stores an entry, so one pass more than the room is enough

@@ -4,12 +4,12 @@ use mathlib.Core.List.{List}
 use Prim.Native.Nat.{ℕ}
 use lib.Dec.{eqb}
 use lib.ListN.{length}
-use Rattle.numbers.specs.Lists.{both, every, keep, below, upFrom}
-use Rattle.grammar.specs.Grammar.{Grammar, production, rights, symbolAt, edgesOf}
-use Rattle.grammar.specs.Table.{symbolIn, productionIn, edgeIn, edgesIn, grammarOf}
-use Rattle.grammar.specs.Refusal.{countsOk, offsetsOk, symbolOk, productionOk, nodeOk, allowed, edgeOk, oneEdge, edgesFrom, edgesRefusal, refusal}
-use Rattle.graph.specs.Rows.{link, own, placedTo, placedFrom, compound, through, step, stepsTo, closure, circleTo, hasCircle, rootTo, rootGraph}
-use Rattle.rules.specs.Passes.{System, Outcome, outcome, numbered, noRoot, seven, candidates, prefixed, combinations, known, six, try, tries, turn, pass, empty, passesFrom, passes}
+use Rattle.numbers.specs.Lists.{upFrom}
+use Rattle.grammar.specs.Grammar.{Grammar, production, rights, edgesOf}
+use Rattle.grammar.specs.Table.{grammarOf}
+use Rattle.grammar.specs.Refusal.{refusal}
+use Rattle.graph.specs.Rows.{compound, closure, hasCircle, rootGraph}
+use Rattle.rules.specs.Passes.{System, Outcome, outcome, numbered, noRoot, empty, passes}
 
 -- the closed rows of a production's compound graph over the graphs gs
 abbrev pub closed : ℕ → Grammar → ℕ → List ℕ → List ℕ
@@ -32,8 +32,3 @@ unfoldable pub test : ℕ → List ℕ → ℕ → ℕ → Outcome
 test w bs limit room =
     cond (eqb (refusal w bs) 0) (passes (systemOf w (grammarOf bs)) limit room (byNumber (grammarOf bs)))
     (outcome (numbered (refusal w bs)) noRoot empty 0)
-
--- to name this on an `unfolding` line is to open every rule
-unfoldable pub opened : Unit {0}
-unfolding both upFrom every keep below symbolAt symbolIn productionIn edgeIn edgesIn grammarOf countsOk offsetsOk symbolOk productionOk nodeOk allowed edgeOk oneEdge edgesFrom edgesRefusal refusal link own placedTo placedFrom compound through step stepsTo closure circleTo rootTo numbered seven candidates prefixed combinations known six try tries turn pass passesFrom passes systemOf test
-opened = tt

@@ -6,7 +6,8 @@ use Rattle.grammar.specs.Grammar.{production}
 use Rattle.grammar.specs.Table.{grammarOf}
 use Rattle.rules.specs.declared.Answer.the-variants.{Refused}
 use Rattle.rules.specs.Passes.{Outcome}
-use Rattle.rules.specs.Test.{test, opened}
+use Rattle.rules.specs.Test.{test}
+use Rattle.rules.specs.Opened.{opened}
 use Rattle.rules.specs.Small.{tableA, tableB, tableQ}
 use Rattle.texts.specs.Lines.{ascii, newline, decimal, tagged, firstLine, rest, printed, shown}
 

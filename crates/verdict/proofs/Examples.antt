@@ -9,7 +9,7 @@ use Rattle.grammar.specs.Rules.{Breaks}
 use Rattle.trees.specs.Tree.{node, nil, cons}
 use Rattle.trees.specs.Small.{grammarA, grammarB, grammarC}
 use Rattle.rules.specs.declared.Answer.the-variants.{Noncircular, Circular, Refused, OutOfSteps, OutOfRoom}
-use Rattle.rules.specs.Test.{opened}
+use Rattle.rules.specs.Opened.{opened}
 use Rattle.rules.specs.Small.{tableA, tableB, tableC, tableR}
 use Rattle.verdict.specs.Demands.{back, answer, NoRuleBroken, TreeOf, HasCircle, shownTree, NoncircularNone, MorePairs, NeverStill, StandsStillLeft}
 use Rattle.verdict.proofs.Demands.{refused-exactly, circular-shown, noncircular-none, steps-exactly, room-exactly, room-counts, never-still, stands-still}

@@ -7,7 +7,7 @@ use lib.ListN.{length}
 use Rattle.rules.specs.declared.Answer.{Answer}
 use Rattle.rules.specs.declared.Answer.the-variants.{Noncircular, Circular, Refused, OutOfSteps, OutOfRoom}
 use Rattle.rules.specs.Passes.{Outcome, outcome, noRoot, empty}
-use Rattle.rules.specs.Test.{opened}
+use Rattle.rules.specs.Opened.{opened}
 use Rattle.rules.specs.Small.{tableA, tableB}
 use Rattle.verdict.specs.Demands.{Version, back, said, shownTree, CircularShown, RefusedExactlyAlways, CircularShownAlways, NoncircularNone, NoncircularNoneAlways, StepsExactlyAlways, RoomExactlyAlways, RoomCountsAlways, NeverStill, NeverStillAlways, PassesFollowed}
 use Rattle.verdict.specs.Wrong.{RefusesEvery, AlwaysOutOfSteps, AlwaysOutOfRoom, AlwaysNoncircular, AlwaysCircular, StoresNothing, BeginsOnePass, onePass, AlwaysCounts, constantly}

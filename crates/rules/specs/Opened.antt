@@ -1,0 +1,13 @@
+-- A name that opens every rule, for proofs that compute. Assumes nothing.
+use Rattle.numbers.specs.Lists.{both, every, keep, below, upFrom}
+use Rattle.grammar.specs.Grammar.{symbolAt}
+use Rattle.grammar.specs.Table.{symbolIn, productionIn, edgeIn, edgesIn, grammarOf}
+use Rattle.grammar.specs.Refusal.{countsOk, offsetsOk, symbolOk, productionOk, nodeOk, allowed, edgeOk, oneEdge, edgesFrom, edgesRefusal, refusal}
+use Rattle.graph.specs.Rows.{link, own, placedTo, placedFrom, compound, through, step, stepsTo, closure, circleTo, rootTo}
+use Rattle.rules.specs.Passes.{numbered, seven, candidates, prefixed, combinations, known, stopIf, goOnIf, try, tries, turn, pass, passesFrom, passes}
+use Rattle.rules.specs.Test.{systemOf, test}
+
+-- to name this on an `unfolding` line is to open every rule
+unfoldable pub opened : Unit {0}
+unfolding both upFrom every keep below symbolAt symbolIn productionIn edgeIn edgesIn grammarOf countsOk offsetsOk symbolOk productionOk nodeOk allowed edgeOk oneEdge edgesFrom edgesRefusal refusal link own placedTo placedFrom compound through step stepsTo closure circleTo rootTo numbered seven candidates prefixed combinations known stopIf goOnIf try tries turn pass passesFrom passes systemOf test
+opened = tt
