@@ -7,7 +7,7 @@ use lib.Dec.{eqb}
 use Rattle.grammar.specs.Table.{grammarOf}
 use Rattle.grammar.specs.Refusal.{refusal}
 use Rattle.rules.specs.declared.Answer.the-variants.{Noncircular, Circular, Refused, OutOfSteps, OutOfRoom}
-use Rattle.rules.specs.Passes.{Outcome, outcome, numbered, noRoot, empty, passesFrom}
+use Rattle.rules.specs.Passes.{Outcome, outcome, numbered, noRoot, pass, after, empty}
 use Rattle.rules.specs.Test.{systemOf, byNumber}
 use Rattle.verdict.specs.Demands.{Version, said}
 
@@ -35,7 +35,8 @@ BeginsOnePass bs limit room v = v bs limit room .report .passes ≤ 1
 -- one honest pass, and then noncircular
 abbrev pub onePass : Version
 onePass bs limit room =
-    cond (eqb (refusal 8 bs) 0) (passesFrom (systemOf 8 (grammarOf bs)) limit room 1 (byNumber (grammarOf bs)) 0 empty)
+    cond (eqb (refusal 8 bs) 0)
+    (after empty 1 (pass (systemOf 8 (grammarOf bs)) limit room (byNumber (grammarOf bs)) empty) (λ s. outcome Noncircular noRoot s 1))
     (outcome (numbered (refusal 8 bs)) noRoot empty 0)
 
 -- the count of closures is the invented number n
