@@ -8,7 +8,7 @@ ghost use lib.ListN.{take, drop};
 ghost use Rattle.numbers.specs.Number.{bit};
 ghost use Rattle.numbers.specs.Lists.{every, below};
 ghost use Rattle.grammar.specs.Grammar.{symbol, production, symbolAt};
-ghost use Rattle.grammar.specs.Table.{N, grammarOf};
+ghost use Rattle.grammar.specs.Table.{N, attributes, widthOf, grammarOf};
 ghost use Rattle.grammar.specs.Rules.{key};
 ghost use Rattle.grammar.specs.Refusal.{
   countsOk,
@@ -85,7 +85,7 @@ fn offsets_ok(table: &[u8]) -> bool
 }
 
 fn symbol_ok(s: Symbol) -> bool
-    ensures { λ r. ⌜ r ≡ symbolOk 8 s ⌝ }
+    ensures { λ r. ⌜ r ≡ symbolOk attributes s ⌝ }
 {
     if 8 < s.count {
         return false;
@@ -94,7 +94,7 @@ fn symbol_ok(s: Symbol) -> bool
 }
 
 fn read_symbol(table: &[u8], s: usize) -> Read
-    ensures { λ r. ⌜ r ≡ symbolRead (symbol (grammarOf (now (table .entry))) s) ⌝ }
+    ensures { λ r. ⌜ r ≡ symbolRead (widthOf (now (table .entry))) (symbol (grammarOf (now (table .entry))) s) ⌝ }
 {
     let x = tables::symbol_of(table, s);
     if symbol_ok(x) {
@@ -105,7 +105,7 @@ fn read_symbol(table: &[u8], s: usize) -> Read
 }
 
 fn check_symbols(table: &[u8]) -> Checked
-    ensures { λ r. ⌜ r ≡ whole 4 (every (symbolOk 8) (grammarOf (now (table .entry)) .symbols)) ⌝ }
+    ensures { λ r. ⌜ r ≡ whole 4 (every (symbolOk (widthOf (now (table .entry)))) (grammarOf (now (table .entry)) .symbols)) ⌝ }
 {
     let count = two_at(table, 0) as usize;
     let mut s = 0;
@@ -326,7 +326,7 @@ fn check_edges(table: &[u8]) -> Checked
 
 // Checks 1 to 5, each over its whole table, then the edges by number.
 pub fn check(table: &[u8]) -> Checked
-    ensures { λ r. ⌜ r ≡ checked (refusal 8 (now (table .entry))) ⌝ }
+    ensures { λ r. ⌜ r ≡ checked (refusal (now (table .entry))) ⌝ }
 {
     if table.len() < 24 {
         return Checked::Refused(1);

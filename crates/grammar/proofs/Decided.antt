@@ -12,7 +12,7 @@ use Rattle.grammar.specs.declared.Production.{Production}
 use Rattle.grammar.specs.declared.Node.{Node}
 use Rattle.grammar.specs.declared.Edge.{Edge}
 use Rattle.grammar.specs.Grammar.{Grammar, symbol, production, rights, symbolAt}
-use Rattle.grammar.specs.Table.{N, P, E, startOf, atSymbols, atProductions, atEdges, total, grammarOf}
+use Rattle.grammar.specs.Table.{N, P, E, startOf, atSymbols, atProductions, atEdges, total, widthOf, grammarOf}
 use Rattle.grammar.specs.Rules.{CountsInRange, OffsetsRight, GoodSymbol, GoodProduction, NodeThere, Allowed, GoodEdge, GoodSymbols, GoodProductions}
 use Rattle.grammar.specs.Refusal.{countsOk, offsetsOk, symbolOk, productionOk, nodeOk, allowed, edgeOk}
 
@@ -106,9 +106,9 @@ edge-decides g e =
     (e .target .occurrence)
     (bit (e .target .attribute) (symbol g (symbolAt p (e .target .occurrence)) .mask))))))
 
-module _ (w : ℕ) (bs : List ℕ) where
-  pub symbols-decide : Decides (every (symbolOk w) (grammarOf bs .symbols)) (GoodSymbols w bs)
-  symbols-decide = every-decides (symbolOk w) (GoodSymbol w) (symbol-decides w) (grammarOf bs .symbols)
+module _ (bs : List ℕ) where
+  pub symbols-decide : Decides (every (symbolOk (widthOf bs)) (grammarOf bs .symbols)) (GoodSymbols bs)
+  symbols-decide = every-decides (symbolOk (widthOf bs)) (GoodSymbol (widthOf bs)) (symbol-decides (widthOf bs)) (grammarOf bs .symbols)
 
   pub productions-decide : Decides (every (productionOk (N bs)) (grammarOf bs .productions)) (GoodProductions bs)
   productions-decide = every-decides (productionOk (N bs)) (GoodProduction (N bs)) (production-decides (N bs)) (grammarOf bs .productions)

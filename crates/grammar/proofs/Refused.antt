@@ -12,7 +12,7 @@ use lib.Seq.{drop-cons}
 use Rattle.numbers.specs.Lists.{every}
 use Rattle.numbers.proofs.Decides.{Decides, Outcome, holds, fails, outcome, not-so, below-decides}
 use Rattle.grammar.specs.Grammar.{Grammar, production}
-use Rattle.grammar.specs.Table.{N, E, grammarOf}
+use Rattle.grammar.specs.Table.{N, E, widthOf, grammarOf}
 use Rattle.grammar.specs.Rules.{CountsInRange, OffsetsRight, GoodSymbols, GoodProductions, GoodEdge, AboveBefore, GoodEdges, BeforeEdges, Breaks, header-short, counts, offsets, symbol-bad, production-bad, edge-bad, edge-order, edge, key, noEdge}
 use Rattle.grammar.specs.Refusal.{countsOk, offsetsOk, symbolOk, productionOk, edgeOk, oneEdge, edgesRefusal, refusal}
 use Rattle.grammar.specs.Steps.{inOrder}
@@ -118,87 +118,84 @@ module _ (g : Grammar) where
       subst (EdgesOutcome g) at-first (from (length (g .edges)) 0 (omega arith) (below-none (λ j. GoodEdge g (edge g j) × AboveBefore g j)))
 
 -- ---- the checks in their order
-pub data Ending (w : ℕ) (bs : List ℕ) : ℕ → Type 0 where
-  taken : BeforeEdges w bs → GoodEdges (grammarOf bs) (E bs) → Ending w bs 0
-  refused : {k : ℕ} → Breaks w bs k → Ending w bs k
+pub data Ending (bs : List ℕ) : ℕ → Type 0 where
+  taken : BeforeEdges bs → GoodEdges (grammarOf bs) (E bs) → Ending bs 0
+  refused : {k : ℕ} → Breaks bs k → Ending bs k
 
-module _ (w : ℕ) (bs : List ℕ) where
-  by-edges : BeforeEdges w bs → (k : ℕ) → EdgesOutcome (grammarOf bs) k → Ending w bs k
+module _ (bs : List ℕ) where
+  by-edges : BeforeEdges bs → (k : ℕ) → EdgesOutcome (grammarOf bs) k → Ending bs k
   by-edges b k (all-good all) = taken b (subst (GoodEdges (grammarOf bs)) (edges-many bs) all)
   by-edges b k (one-bad i h all bad) = refused (edge-bad b i (omega (arith, edges-many bs)) all bad)
   by-edges b k (one-low i h all good low) = refused (edge-order b i (omega (arith, edges-many bs)) all good low)
 
-  pub ending : Ending w bs (refusal w bs)
+  pub ending : Ending bs (refusal bs)
   ending = by-header (decLe 24 (length bs))
     where
       End : Type 0
-      End = Ending w bs (refusal w bs)
+      End = Ending bs (refusal bs)
 
-      by : {k : ℕ} → refusal w bs ≡ k → Ending w bs k → End
-      by e = subst (Ending w bs) (sym e)
+      by : {k : ℕ} → refusal bs ≡ k → Ending bs k → End
+      by e = subst (Ending bs) (sym e)
 
       by-header : Dec (24 ≤ length bs) → End
-      by-header (no n) = by (refusal-one w bs (omega arith)) (refused (header-short n))
+      by-header (no n) = by (refusal-one bs (omega arith)) (refused (header-short n))
       by-header (yes h) = by-counts (outcome (counts-decide bs))
         where
           by-counts : Outcome (countsOk bs) (CountsInRange bs) → End
-          by-counts (fails t n) = by (refusal-two w bs h t) (refused (counts h n))
+          by-counts (fails t n) = by (refusal-two bs h t) (refused (counts h n))
           by-counts (holds t c) = by-offsets (outcome (offsets-decide bs))
             where
               by-offsets : Outcome (offsetsOk bs) (OffsetsRight bs) → End
-              by-offsets (fails u n) = by (refusal-three w bs h t u) (refused (offsets h c n))
-              by-offsets (holds u o) = by-symbols (outcome (symbols-decide w bs))
+              by-offsets (fails u n) = by (refusal-three bs h t u) (refused (offsets h c n))
+              by-offsets (holds u o) = by-symbols (outcome (symbols-decide bs))
                 where
-                  by-symbols : Outcome (every (symbolOk w) (grammarOf bs .symbols)) (GoodSymbols w bs) → End
-                  by-symbols (fails v n) = by (refusal-four w bs h t u v) (refused (symbol-bad h c o n))
-                  by-symbols (holds v s) = by-productions (outcome (productions-decide w bs))
+                  by-symbols : Outcome (every (symbolOk (widthOf bs)) (grammarOf bs .symbols)) (GoodSymbols bs) → End
+                  by-symbols (fails v n) = by (refusal-four bs h t u v) (refused (symbol-bad h c o n))
+                  by-symbols (holds v s) = by-productions (outcome (productions-decide bs))
                     where
                       by-productions :
                           Outcome (every (productionOk (N bs)) (grammarOf bs .productions)) (GoodProductions bs) → End
-                      by-productions (fails x n) = by (refusal-five w bs h t u v x) (refused (production-bad h c o s n))
+                      by-productions (fails x n) = by (refusal-five bs h t u v x) (refused (production-bad h c o s n))
                       by-productions (holds x p) =
-                          by (refusal-edges w bs h t u v x) (by-edges (h, c, o, s, p) _ (edges-outcome (grammarOf bs)))
+                          by (refusal-edges bs h t u v x) (by-edges (h, c, o, s, p) _ (edges-outcome (grammarOf bs)))
 
-module _ (w : ℕ) (bs : List ℕ) where
-  broken : (k : ℕ) → Ending w bs (suc k) → Breaks w bs (suc k)
+module _ (bs : List ℕ) where
+  broken : (k : ℕ) → Ending bs (suc k) → Breaks bs (suc k)
   broken k (refused b) = b
 
-  to-edges : BeforeEdges w bs → refusal w bs ≡ edgesRefusal (grammarOf bs) (grammarOf bs .edges)
+  to-edges : BeforeEdges bs → refusal bs ≡ edgesRefusal (grammarOf bs) (grammarOf bs .edges)
   to-edges b =
       refusal-edges
-      w
       bs
       (b .0)
       (counts-decide bs .passes (b .1))
       (offsets-decide bs .passes (b .2))
-      (symbols-decide w bs .passes (b .3))
-      (productions-decide w bs .passes (b .4))
+      (symbols-decide bs .passes (b .3))
+      (productions-decide bs .passes (b .4))
 
-  shown : {k : ℕ} → Breaks w bs k → refusal w bs ≡ k
-  shown (header-short n) = refusal-one w bs (omega arith)
-  shown (counts h n) = refusal-two w bs h (not-so (counts-decide bs) n)
-  shown (offsets h c n) = refusal-three w bs h (counts-decide bs .passes c) (not-so (offsets-decide bs) n)
+  shown : {k : ℕ} → Breaks bs k → refusal bs ≡ k
+  shown (header-short n) = refusal-one bs (omega arith)
+  shown (counts h n) = refusal-two bs h (not-so (counts-decide bs) n)
+  shown (offsets h c n) = refusal-three bs h (counts-decide bs .passes c) (not-so (offsets-decide bs) n)
   shown (symbol-bad h c o n) =
       refusal-four
-      w
       bs
       h
       (counts-decide bs .passes c)
       (offsets-decide bs .passes o)
-      (not-so (symbols-decide w bs) n)
+      (not-so (symbols-decide bs) n)
   shown (production-bad h c o s n) =
       refusal-five
-      w
       bs
       h
       (counts-decide bs .passes c)
       (offsets-decide bs .passes o)
-      (symbols-decide w bs .passes s)
-      (not-so (productions-decide w bs) n)
+      (symbols-decide bs .passes s)
+      (not-so (productions-decide bs) n)
   shown (edge-bad b i h all bad) =
       to-edges b ∙ edges-six (grammarOf bs) i (omega (arith, edges-many bs)) all bad
   shown (edge-order b i h all good low) =
       to-edges b ∙ edges-seven (grammarOf bs) i (omega (arith, edges-many bs)) all good low
 
 pub refused-exactly : RefusedExactly
-refused-exactly w bs k = (λ e. broken w bs k (subst (Ending w bs) e (ending w bs)), shown w bs)
+refused-exactly bs k = (λ e. broken bs k (subst (Ending bs) e (ending bs)), shown bs)

@@ -17,8 +17,8 @@ use Rattle.grammar.proofs.Lookups.{edge-there, edges-many, productions-
 use Rattle.grammar.proofs.Refused.{Ending, taken, refused, ending}
 use Rattle.grammar.proofs.Runs.{run-is-all}
 
-module _ (w : ℕ) (bs : List ℕ) where
-  some-number : {k : ℕ} → Breaks w bs k → 0 < k
+module _ (bs : List ℕ) where
+  some-number : {k : ℕ} → Breaks bs k → 0 < k
   some-number (header-short n) = lit< tt
   some-number (counts h n) = lit< tt
   some-number (offsets h c n) = lit< tt
@@ -27,11 +27,11 @@ module _ (w : ℕ) (bs : List ℕ) where
   some-number (edge-bad b i h all bad) = lit< tt
   some-number (edge-order b i h all good low) = lit< tt
 
-  not-refused : Ending w bs 0 → BeforeEdges w bs × GoodEdges (grammarOf bs) (E bs)
+  not-refused : Ending bs 0 → BeforeEdges bs × GoodEdges (grammarOf bs) (E bs)
   not-refused (taken b all) = (b, all)
   not-refused (refused b) = absurd (lt-irrefl 0 (some-number b))
 
-  module _ (before : BeforeEdges w bs) (all : GoodEdges (grammarOf bs) (E bs)) where
+  module _ (before : BeforeEdges bs) (all : GoodEdges (grammarOf bs) (E bs)) where
     good : (e : Edge) → List·Memᴰ e (grammarOf bs .edges) → GoodEdge (grammarOf bs) e
     good e m =
         let r = stands-at noEdge e (grammarOf bs .edges) m in
@@ -64,7 +64,7 @@ module _ (w : ℕ) (bs : List ℕ) where
         (arith, below-first (key (edge (grammarOf bs) i)) (key (edge (grammarOf bs) j)) (ascending i j h u), produced i (omega arith), produced j u))
         (eq-or-lt-of-le l)
 
-    is-valid : Valid w bs
+    is-valid : Valid bs
     is-valid =
         record {
           header = before .0;
@@ -85,6 +85,6 @@ module _ (w : ℕ) (bs : List ℕ) where
         }
 
 pub valid : TakenIsValid
-valid w bs e =
-    let r = not-refused w bs (subst (Ending w bs) e (ending w bs)) in
-    is-valid w bs (r .0) (r .1)
+valid bs e =
+    let r = not-refused bs (subst (Ending bs) e (ending bs)) in
+    is-valid bs (r .0) (r .1)

@@ -11,7 +11,7 @@ use Rattle.grammar.specs.declared.Production.{Production}
 use Rattle.grammar.specs.declared.Node.{Node}
 use Rattle.grammar.specs.declared.Edge.{Edge}
 use Rattle.grammar.specs.Grammar.{Grammar, symbol, production, rights, symbolAt}
-use Rattle.grammar.specs.Table.{N, P, E, startOf, atSymbols, atProductions, atEdges, total, grammarOf}
+use Rattle.grammar.specs.Table.{N, P, E, startOf, atSymbols, atProductions, atEdges, total, widthOf, grammarOf}
 use Rattle.grammar.specs.Rules.{key}
 
 unfoldable pub countsOk : List ℕ → Bool
@@ -66,12 +66,12 @@ edgesRefusal g [] = 0
 edgesRefusal g (e ∷ es) = oneEdge (edgeOk g (production g (e .production)) e) true (edgesFrom g (key e) es)
 
 -- the number of the first rule that the table breaks, 0 where it breaks none
-unfoldable pub refusal : ℕ → List ℕ → ℕ
-refusal w bs =
+unfoldable pub refusal : List ℕ → ℕ
+refusal bs =
     cond (leb 24 (length bs))
     (cond (countsOk bs)
     (cond (offsetsOk bs)
-    (cond (every (symbolOk w) (grammarOf bs .symbols))
+    (cond (every (symbolOk (widthOf bs)) (grammarOf bs .symbols))
     (cond (every (productionOk (N bs)) (grammarOf bs .productions))
     (edgesRefusal (grammarOf bs) (grammarOf bs .edges))
     5)

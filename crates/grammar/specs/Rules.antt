@@ -10,7 +10,7 @@ use Rattle.grammar.specs.declared.Production.{Production}
 use Rattle.grammar.specs.declared.Node.{Node}
 use Rattle.grammar.specs.declared.Edge.{Edge}
 use Rattle.grammar.specs.Grammar.{Grammar, symbol, production, rights, symbolAt}
-use Rattle.grammar.specs.Table.{N, P, E, startOf, atSymbols, atProductions, atEdges, total, grammarOf}
+use Rattle.grammar.specs.Table.{N, P, E, startOf, atSymbols, atProductions, atEdges, total, widthOf, grammarOf}
 
 -- 1, header: there are 24 bytes
 abbrev pub HasHeader : List ℕ → Type 0
@@ -77,8 +77,8 @@ abbrev pub AboveBefore : Grammar → ℕ → Type 0
 AboveBefore g zero = Unit {0}
 AboveBefore g (suc i) = Below (key (edge g i)) (key (edge g (suc i)))
 
-abbrev pub GoodSymbols : ℕ → List ℕ → Type 0
-GoodSymbols w bs = (s : Symbol) → List·Memᴰ s (grammarOf bs .symbols) → GoodSymbol w s
+abbrev pub GoodSymbols : List ℕ → Type 0
+GoodSymbols bs = (s : Symbol) → List·Memᴰ s (grammarOf bs .symbols) → GoodSymbol (widthOf bs) s
 
 abbrev pub GoodProductions : List ℕ → Type 0
 GoodProductions bs = (p : Production) → List·Memᴰ p (grammarOf bs .productions) → GoodProduction (N bs) p
@@ -88,24 +88,24 @@ abbrev pub GoodEdges : Grammar → ℕ → Type 0
 GoodEdges g i = (j : ℕ) → j < i → GoodEdge g (edge g j) × AboveBefore g j
 
 -- what is looked at before the edges
-abbrev pub BeforeEdges : ℕ → List ℕ → Type 0
-BeforeEdges w bs = HasHeader bs × CountsInRange bs × OffsetsRight bs × GoodSymbols w bs × GoodProductions bs
+abbrev pub BeforeEdges : List ℕ → Type 0
+BeforeEdges bs = HasHeader bs × CountsInRange bs × OffsetsRight bs × GoodSymbols bs × GoodProductions bs
 
 -- The table breaks the rule k, and none that is looked at before it: 1 to 5 each over its whole table, then the edges by number,
 -- of which the first bad one decides, 6 before 7.
-pub data Breaks (w : ℕ) (bs : List ℕ) : ℕ → Type 0 where
-  header-short : (¬ HasHeader bs) → Breaks w bs 1
-  counts : HasHeader bs → (¬ CountsInRange bs) → Breaks w bs 2
-  offsets : HasHeader bs → CountsInRange bs → (¬ OffsetsRight bs) → Breaks w bs 3
-  symbol-bad : HasHeader bs → CountsInRange bs → OffsetsRight bs → (¬ GoodSymbols w bs) → Breaks w bs 4
+pub data Breaks (bs : List ℕ) : ℕ → Type 0 where
+  header-short : (¬ HasHeader bs) → Breaks bs 1
+  counts : HasHeader bs → (¬ CountsInRange bs) → Breaks bs 2
+  offsets : HasHeader bs → CountsInRange bs → (¬ OffsetsRight bs) → Breaks bs 3
+  symbol-bad : HasHeader bs → CountsInRange bs → OffsetsRight bs → (¬ GoodSymbols bs) → Breaks bs 4
   production-bad :
-      HasHeader bs → CountsInRange bs → OffsetsRight bs → GoodSymbols w bs → (¬ GoodProductions bs) → Breaks w bs 5
+      HasHeader bs → CountsInRange bs → OffsetsRight bs → GoodSymbols bs → (¬ GoodProductions bs) → Breaks bs 5
   edge-bad :
-      BeforeEdges w bs
+      BeforeEdges bs
       → (i : ℕ) → i < E bs → GoodEdges (grammarOf bs) i → (¬ GoodEdge (grammarOf bs) (edge (grammarOf bs) i))
-      → Breaks w bs 6
+      → Breaks bs 6
   edge-order :
-      BeforeEdges w bs
+      BeforeEdges bs
       → (i : ℕ) → i < E bs → GoodEdges (grammarOf bs) i → GoodEdge (grammarOf bs) (edge (grammarOf bs) i)
       → (¬ AboveBefore (grammarOf bs) i)
-      → Breaks w bs 7
+      → Breaks bs 7

@@ -18,8 +18,8 @@ unfoldable pub orRefused : Bool → Read → ℕ → Read
 orRefused true x k = x
 orRefused false x k = Read.Refused k
 
-abbrev pub symbolRead : Symbol → Read
-symbolRead s = orRefused (symbolOk 8 s) (Read.Symbol s) 4
+abbrev pub symbolRead : ℕ → Symbol → Read
+symbolRead w s = orRefused (symbolOk w s) (Read.Symbol s) 4
 
 abbrev pub productionRead : ℕ → Production → Read
 productionRead n p = orRefused (productionOk n p) (Read.Production (record { left = p .left; n = p .n })) 5

@@ -37,6 +37,13 @@ abbrev pub total : List ℕ → ℕ
 total bs = 24 + 2 * N bs + 18 * P bs + 6 * E bs
 
 -- ---- the records: 2, 18 and 6 bytes
+-- how many attributes a symbol may have: 8, in every table
+abbrev pub attributes : ℕ
+attributes = 8
+
+abbrev pub widthOf : List ℕ → ℕ
+widthOf bs = attributes
+
 unfoldable pub symbolIn : List ℕ → ℕ → Symbol
 symbolIn bs i = record { count = getD bs i 0; mask = getD bs (i + 1) 0 }
 

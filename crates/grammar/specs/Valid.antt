@@ -24,14 +24,14 @@ use Rattle.grammar.specs.Reading.{runOf}
 
 -- a refusal comes exactly for a table that breaks the rule of its number, and none that is looked at before it
 abbrev pub RefusedExactly : Type 0
-RefusedExactly = (w : ℕ) (bs : List ℕ) (k : ℕ) → (refusal w bs ≡ suc k) ↔ Breaks w bs (suc k)
+RefusedExactly = (bs : List ℕ) (k : ℕ) → (refusal bs ≡ suc k) ↔ Breaks bs (suc k)
 
--- a table with at most w attributes to a symbol that obeys every rule
-pub record Valid (w : ℕ) (bs : List ℕ) : Type 0 where
+-- a table that obeys every rule
+pub record Valid (bs : List ℕ) : Type 0 where
   pub header : HasHeader bs
   pub counts : CountsInRange bs
   pub offsets : OffsetsRight bs
-  pub symbols : GoodSymbols w bs
+  pub symbols : GoodSymbols bs
   pub productions : GoodProductions bs
   pub edges : (e : Edge) → List·Memᴰ e (grammarOf bs .edges) → GoodEdge (grammarOf bs) e
   -- each edge is good and above the edge before it
@@ -43,4 +43,4 @@ pub record Valid (w : ℕ) (bs : List ℕ) : Type 0 where
 
 -- a table that is not refused is valid
 abbrev pub TakenIsValid : Type 0
-TakenIsValid = (w : ℕ) (bs : List ℕ) → refusal w bs ≡ 0 → Valid w bs
+TakenIsValid = (bs : List ℕ) → refusal bs ≡ 0 → Valid bs

@@ -15,7 +15,7 @@ use rules::Report;
 // The check of a table: 0, or the number of its refusal.
 #[no_mangle]
 pub extern "C" fn kusillaqe_check(table: &[u8]) -> u8
-    ensures { λ r. ⌜ r ≡ refusal 8 (now (table .entry)) ⌝ }
+    ensures { λ r. ⌜ r ≡ refusal (now (table .entry)) ⌝ }
 {
     let checked = checks::check(table);
     match checked {

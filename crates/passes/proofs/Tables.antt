@@ -36,12 +36,12 @@ use Rattle.passes.proofs.Systems.{Agrees, turn-follows}
 
 -- ---- a table that is not refused
 
-module _ (bs : List ℕ) (good : refusal 8 bs ≡ 0) where
+module _ (bs : List ℕ) (good : refusal bs ≡ 0) where
   abbrev g : Grammar
   g = grammarOf bs
 
-  taken : Valid 8 bs
-  taken = valid 8 bs good
+  taken : Valid bs
+  taken = valid bs good
 
   pub few-productions : P bs ≤ 512
   few-productions = taken .counts .productions

@@ -11,7 +11,7 @@ use Rattle.numbers.specs.Lists.{below, every, upFrom}
 use Rattle.grammar.specs.declared.Checked.the-variants.{Good, Refused as Stopped}
 use Rattle.grammar.specs.declared.Edge.{Edge}
 use Rattle.grammar.specs.Grammar.{Grammar, production}
-use Rattle.grammar.specs.Table.{N, P, grammarOf}
+use Rattle.grammar.specs.Table.{N, P, widthOf, grammarOf}
 use Rattle.grammar.specs.Rules.{key}
 use Rattle.grammar.specs.Refusal.{countsOk, offsetsOk, symbolOk, productionOk, edgeOk, oneEdge, edgesFrom, edgesRefusal, refusal}
 use Rattle.grammar.specs.Reading.{checked}
@@ -45,13 +45,13 @@ pick-small : (b : Bool) (x y : ℕ) → x ≤ 7 → y ≤ 7 → cond b x y ≤ 7
 pick-small true x y h i = h
 pick-small false x y h i = i
 
-pub refusal-small : (w : ℕ) (bs : List ℕ) → refusal w bs ≤ 7
+pub refusal-small : (bs : List ℕ) → refusal bs ≤ 7
 unfolding refusal
-refusal-small w bs =
+refusal-small bs =
     pick-small (leb 24 (length bs)) _ 1
     (pick-small (countsOk bs) _ 2
     (pick-small (offsetsOk bs) _ 3
-    (pick-small (every (symbolOk w) (grammarOf bs .symbols)) _ 4
+    (pick-small (every (symbolOk (widthOf bs)) (grammarOf bs .symbols)) _ 4
     (pick-small (every (productionOk (N bs)) (grammarOf bs .productions)) _ 5 (all-small (grammarOf bs) (grammarOf bs .edges)) (omega arith))
     (omega arith))
     (omega arith))
@@ -79,21 +79,21 @@ unfolding numbered
 refused-number k h = rw (ne-eqb k 8 (omega arith), ne-eqb k 9 (omega arith))
 
 module _ (bs : List ℕ) where
-  pub taken : checked (refusal 8 bs) ≡ Good → refusal 8 bs ≡ 0
-  taken h = checked-good (refusal 8 bs) h
+  pub taken : checked (refusal bs) ≡ Good → refusal bs ≡ 0
+  taken h = checked-good (refusal bs) h
 
-  pub test-taken : (limit room count : ℕ) (σ : Slices) → checked (refusal 8 bs) ≡ Good → count ≡ P bs → room ≡ roomOf σ
+  pub test-taken : (limit room count : ℕ) (σ : Slices) → checked (refusal bs) ≡ Good → count ≡ P bs → room ≡ roomOf σ
       → passes (systemOf 8 (grammarOf bs)) limit room (upFrom 0 count) ≡ test 8 bs limit (roomOf σ)
   unfolding test
   test-taken limit room count σ h c r = rw (taken h, productions-many bs, c, r)
 
-  pub test-refusal : (limit room : ℕ) → (refusal 8 bs ≡ 0 → ⊥) → test 8 bs limit room ≡ outcome (Refused (refusal 8 bs)) noRoot empty 0
+  pub test-refusal : (limit room : ℕ) → (refusal bs ≡ 0 → ⊥) → test 8 bs limit room ≡ outcome (Refused (refusal bs)) noRoot empty 0
   unfolding test
-  test-refusal limit room h = rw (ne-eqb (refusal 8 bs) 0 h, refused-number (refusal 8 bs) (refusal-small 8 bs))
+  test-refusal limit room h = rw (ne-eqb (refusal bs) 0 h, refused-number (refusal bs) (refusal-small bs))
 
-  pub test-refused : (limit room k : ℕ) → checked (refusal 8 bs) ≡ Stopped k → test 8 bs limit room ≡ outcome (Refused k) noRoot empty 0
+  pub test-refused : (limit room k : ℕ) → checked (refusal bs) ≡ Stopped k → test 8 bs limit room ≡ outcome (Refused k) noRoot empty 0
   test-refused limit room k h =
-      let w = checked-stopped (refusal 8 bs) k h in
+      let w = checked-stopped (refusal bs) k h in
       test-refusal limit room (w .1) ∙ ap (λ (n : ℕ). outcome (Refused n) noRoot empty 0) (w .0)
 
 -- nothing is stored

@@ -128,7 +128,7 @@ fn all_occur(symbols: &[u16], task: Task) -> bool
 
 // The task of a turn of the production `number`.
 fn task_of(table: &[u8], number: usize, room: usize, first: usize) -> Task
-    requires { ⌜ (refusal 8 (now table) ≡ 0) × (number < P (now table)) ⌝ }
+    requires { ⌜ (refusal (now table) ≡ 0) × (number < P (now table)) ⌝ }
     ensures { λ r. ⌜ r ≡ taskOf (now (table .entry)) number room first ⌝ }
 {
     let production = tables::production_of(table, number);
@@ -146,7 +146,7 @@ fn task_of(table: &[u8], number: usize, room: usize, first: usize) -> Task
 
 // The own rows of the production `number`.
 fn own_of(table: &[u8], number: usize) -> [u64; 64]
-    requires { ⌜ (refusal 8 (now table) ≡ 0) × (number < P (now table)) ⌝ }
+    requires { ⌜ (refusal (now table) ≡ 0) × (number < P (now table)) ⌝ }
     ensures { λ r. ⌜ r ≡ ownOf (now (table .entry)) number ⌝ }
 {
     let run = tables::run_of(table, number);
@@ -164,7 +164,7 @@ fn turn(
     room: usize,
     run: Run,
 ) -> Run
-    requires { ⌜ (refusal 8 (now table) ≡ 0) × (number < P (now table)) × Roomy room (slices (now symbols) (now graphs) (now productions) (now kids)) run × (run .going ≡ true) ⌝ }
+    requires { ⌜ (refusal (now table) ≡ 0) × (number < P (now table)) × Roomy room (slices (now symbols) (now graphs) (now productions) (now kids)) run × (run .going ≡ true) ⌝ }
     ensures { λ r. ⌜ Follows room (λ limit. stated.turn (systemOf 8 (grammarOf (now (table .entry)))) limit room number)
         (slices (now (symbols .entry)) (now (graphs .entry)) (now (productions .entry)) (now (kids .entry))) run
         (slices (now (symbols .exit)) (now (graphs .exit)) (now (productions .exit)) (now (kids .exit))) r ⌝ }
@@ -198,7 +198,7 @@ fn pass(
     room: usize,
     run: Run,
 ) -> Run
-    requires { ⌜ (refusal 8 (now table) ≡ 0) × (count ≡ P (now table)) × Roomy room (slices (now symbols) (now graphs) (now productions) (now kids)) run ⌝ }
+    requires { ⌜ (refusal (now table) ≡ 0) × (count ≡ P (now table)) × Roomy room (slices (now symbols) (now graphs) (now productions) (now kids)) run ⌝ }
     ensures { λ r. ⌜ Follows room (λ limit. stated.pass (systemOf 8 (grammarOf (now (table .entry)))) limit room (upFrom 0 count))
         (slices (now (symbols .entry)) (now (graphs .entry)) (now (productions .entry)) (now (kids .entry))) run
         (slices (now (symbols .exit)) (now (graphs .exit)) (now (productions .exit)) (now (kids .exit))) r ⌝ }
@@ -254,7 +254,7 @@ fn passes(
     room: usize,
     limit: u32,
 ) -> Report
-    requires { ⌜ (refusal 8 (now table) ≡ 0) × (count ≡ P (now table)) × (room ≡ roomOf (slices (now symbols) (now graphs) (now productions) (now kids))) ⌝ }
+    requires { ⌜ (refusal (now table) ≡ 0) × (count ≡ P (now table)) × (room ≡ roomOf (slices (now symbols) (now graphs) (now productions) (now kids))) ⌝ }
     ensures { λ r. ⌜ Tells (stated.passes (systemOf 8 (grammarOf (now (table .entry)))) limit room (upFrom 0 count))
         (slices (now (symbols .entry)) (now (graphs .entry)) (now (productions .entry)) (now (kids .entry))) r
         (slices (now (symbols .exit)) (now (graphs .exit)) (now (productions .exit)) (now (kids .exit))) ⌝ }

@@ -38,7 +38,7 @@ module _ (bs : List ℕ) (long : 58904 < length bs) where
       let counts = counts-decide bs .so c in
       not-so (offsets-decide bs) (λ offsets. omega arith)
 
-  refused-by : refusal 8 bs ≡ cond (countsOk bs) 3 2
+  refused-by : refusal bs ≡ cond (countsOk bs) 3 2
   unfolding refusal
   refused-by = rw (le-leb 24 (length bs) (omega arith)) (by-counts (countsOk bs) (offsetsOk bs) _ no-offsets)
 

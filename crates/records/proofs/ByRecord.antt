@@ -45,5 +45,5 @@ module _ (bs : List ℕ) (limit : ℕ) (before : List Entry) (r : Report) (after
   beyond-before i l = rest-before i (omega (arith, fits))
 
   -- on a refusal all is as before
-  pub refused-before : (refusal 8 bs ≡ 0 → ⊥) → after ≡ before
+  pub refused-before : (refusal bs ≡ 0 → ⊥) → after ≡ before
   refused-before bad = tested .entries ∙ ap (λ (o : Outcome). written (o .entries) before) (test-refusal bs limit (roomOf before) bad)

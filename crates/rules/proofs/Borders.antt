@@ -9,7 +9,7 @@ use Rattle.rules.specs.Small.{tableA, tableB}
 -- A itself; 23 bytes; one byte past the total; n = 7 and n = 8; an attribute count of 8 and of 9; no symbol; the start not below N;
 -- a spare slot; a mask bit at the count; an edge's production, occurrence, attribute and target; an edge given twice; two edges exchanged
 pub borders :
-    map (refusal 8)
+    map refusal
     (tableA
     ∷ take 23 tableA
     ∷ (tableA ++ (0 ∷ []))

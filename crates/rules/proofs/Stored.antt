@@ -152,11 +152,11 @@ module _ (w : ℕ) (bs : List ℕ) where
 
   pub counted-test : (limit room : ℕ) → Counted room (test w bs limit room)
   unfolding test passes
-  counted-test limit room = go (eqb (refusal w bs) 0)
+  counted-test limit room = go (eqb (refusal bs) 0)
     where
       nothing : Sound room []
       nothing = record { fits = zero-le; slots = tt }
 
-      go : (b : Bool) → Counted room (cond b (passes (systemOf w (grammarOf bs)) limit room (byNumber (grammarOf bs))) (outcome (numbered (refusal w bs)) noRoot empty 0))
+      go : (b : Bool) → Counted room (cond b (passes (systemOf w (grammarOf bs)) limit room (byNumber (grammarOf bs))) (outcome (numbered (refusal bs)) noRoot empty 0))
       go true = counted-passes (systemOf w (grammarOf bs)) limit room few-rights (suc room) (byNumber (grammarOf bs)) 0 empty nothing
       go false = record { count = refl; sound = nothing }

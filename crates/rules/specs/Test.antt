@@ -30,5 +30,5 @@ byNumber g = upFrom 0 (length (g .productions))
 
 unfoldable pub test : ℕ → List ℕ → ℕ → ℕ → Outcome
 test w bs limit room =
-    cond (eqb (refusal w bs) 0) (passes (systemOf w (grammarOf bs)) limit room (byNumber (grammarOf bs)))
-    (outcome (numbered (refusal w bs)) noRoot empty 0)
+    cond (eqb (refusal bs) 0) (passes (systemOf w (grammarOf bs)) limit room (byNumber (grammarOf bs)))
+    (outcome (numbered (refusal bs)) noRoot empty 0)

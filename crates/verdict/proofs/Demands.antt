@@ -38,69 +38,69 @@ case OutOfSteps = 3
 case OutOfRoom = 4
 
 -- the number of a rule that a table breaks is no other answer's
-broken : (w : ℕ) (bs : List ℕ) (k : ℕ) → Breaks w bs k → numbered k ≡ Refused k
+broken : (bs : List ℕ) (k : ℕ) → Breaks bs k → numbered k ≡ Refused k
 unfolding numbered
-broken w bs k (Breaks.header-short a) = refl
-broken w bs k (Breaks.counts a b) = refl
-broken w bs k (Breaks.offsets a b c) = refl
-broken w bs k (Breaks.symbol-bad a b c d) = refl
-broken w bs k (Breaks.production-bad a b c d e) = refl
-broken w bs k (Breaks.edge-bad a i b c d) = refl
-broken w bs k (Breaks.edge-order a i b c d e) = refl
+broken bs k (Breaks.header-short a) = refl
+broken bs k (Breaks.counts a b) = refl
+broken bs k (Breaks.offsets a b c) = refl
+broken bs k (Breaks.symbol-bad a b c d) = refl
+broken bs k (Breaks.production-bad a b c d e) = refl
+broken bs k (Breaks.edge-bad a i b c d) = refl
+broken bs k (Breaks.edge-order a i b c d e) = refl
 
-some-rule : (w : ℕ) (bs : List ℕ) (k : ℕ) → Breaks w bs k → (j : ℕ) × (k ≡ suc j)
-some-rule w bs k (Breaks.header-short a) = (0, refl)
-some-rule w bs k (Breaks.counts a b) = (1, refl)
-some-rule w bs k (Breaks.offsets a b c) = (2, refl)
-some-rule w bs k (Breaks.symbol-bad a b c d) = (3, refl)
-some-rule w bs k (Breaks.production-bad a b c d e) = (4, refl)
-some-rule w bs k (Breaks.edge-bad a i b c d) = (5, refl)
-some-rule w bs k (Breaks.edge-order a i b c d e) = (6, refl)
+some-rule : (bs : List ℕ) (k : ℕ) → Breaks bs k → (j : ℕ) × (k ≡ suc j)
+some-rule bs k (Breaks.header-short a) = (0, refl)
+some-rule bs k (Breaks.counts a b) = (1, refl)
+some-rule bs k (Breaks.offsets a b c) = (2, refl)
+some-rule bs k (Breaks.symbol-bad a b c d) = (3, refl)
+some-rule bs k (Breaks.production-bad a b c d e) = (4, refl)
+some-rule bs k (Breaks.edge-bad a i b c d) = (5, refl)
+some-rule bs k (Breaks.edge-order a i b c d e) = (6, refl)
 
 module _ (bs : List ℕ) where
   abbrev ran : ℕ → ℕ → Outcome
   ran limit room = passes (systemOf 8 (grammarOf bs)) limit room (byNumber (grammarOf bs))
 
   -- either the passes are run, or the table breaks a rule
-  taken : refusal 8 bs ≡ 0 → (limit room : ℕ) → back bs limit room ≡ ran limit room
+  taken : refusal bs ≡ 0 → (limit room : ℕ) → back bs limit room ≡ ran limit room
   unfolding test
   taken e limit room = rw e
 
-  turned-away : (k : ℕ) → refusal 8 bs ≡ suc k → (limit room : ℕ) → back bs limit room ≡ outcome (numbered (suc k)) noRoot empty 0
+  turned-away : (k : ℕ) → refusal bs ≡ suc k → (limit room : ℕ) → back bs limit room ≡ outcome (numbered (suc k)) noRoot empty 0
   unfolding test
   turned-away k e limit room =
       ap (λ (n : ℕ). cond (eqb n 0) (ran limit room) (outcome (numbered n) noRoot empty 0)) e
       ∙ ap (λ (b : Bool). cond b (ran limit room) (outcome (numbered (suc k)) noRoot empty 0)) (eqb·suc-zero k)
 
-  refused : (k : ℕ) → Breaks 8 bs k → (limit room : ℕ) → back bs limit room ≡ outcome (Refused k) noRoot empty 0
+  refused : (k : ℕ) → Breaks bs k → (limit room : ℕ) → back bs limit room ≡ outcome (Refused k) noRoot empty 0
   refused k b limit room =
-      let j = some-rule 8 bs k b in
-      turned-away (j .0) (rules-shown.refused-exactly 8 bs (j .0) .1 (subst (Breaks 8 bs) (j .1) b)) limit room
-      ∙ ap (λ (a : Answer). outcome a noRoot empty 0) (ap numbered (sym (j .1)) ∙ broken 8 bs k b)
+      let j = some-rule bs k b in
+      turned-away (j .0) (rules-shown.refused-exactly bs (j .0) .1 (subst (Breaks bs) (j .1) b)) limit room
+      ∙ ap (λ (a : Answer). outcome a noRoot empty 0) (ap numbered (sym (j .1)) ∙ broken bs k b)
 
-  either : (refusal 8 bs ≡ 0) ⊎ ((k : ℕ) × Breaks 8 bs k)
-  either = go (refusal 8 bs) refl
+  either : (refusal bs ≡ 0) ⊎ ((k : ℕ) × Breaks bs k)
+  either = go (refusal bs) refl
     where
-      go : (n : ℕ) → refusal 8 bs ≡ n → (refusal 8 bs ≡ 0) ⊎ ((k : ℕ) × Breaks 8 bs k)
+      go : (n : ℕ) → refusal bs ≡ n → (refusal bs ≡ 0) ⊎ ((k : ℕ) × Breaks bs k)
       go zero e = inl e
-      go (suc k) e = inr (suc k, rules-shown.refused-exactly 8 bs k .0 e)
+      go (suc k) e = inr (suc k, rules-shown.refused-exactly bs k .0 e)
 
-  when-unbroken : NoRuleBroken bs → refusal 8 bs ≡ 0
+  when-unbroken : NoRuleBroken bs → refusal bs ≡ 0
   when-unbroken n = go either
     where
-      go : (refusal 8 bs ≡ 0) ⊎ ((k : ℕ) × Breaks 8 bs k) → refusal 8 bs ≡ 0
+      go : (refusal bs ≡ 0) ⊎ ((k : ℕ) × Breaks bs k) → refusal bs ≡ 0
       go (inl e) = e
       go (inr (k, b)) = absurd (n k b)
 
   -- an answer other than a refusal is that of the passes
-  not-refused : (limit room : ℕ) (a : Answer) → answer bs limit room ≡ a → ¬ (case a ≡ 2) → refusal 8 bs ≡ 0
+  not-refused : (limit room : ℕ) (a : Answer) → answer bs limit room ≡ a → ¬ (case a ≡ 2) → refusal bs ≡ 0
   not-refused limit room a h n = go either
     where
-      go : (refusal 8 bs ≡ 0) ⊎ ((k : ℕ) × Breaks 8 bs k) → refusal 8 bs ≡ 0
+      go : (refusal bs ≡ 0) ⊎ ((k : ℕ) × Breaks bs k) → refusal bs ≡ 0
       go (inl e) = e
       go (inr (k, b)) = absurd (n (ap case (sym h) ∙ ap (λ (o : Outcome). case (o .report .answer)) (refused k b limit room)))
 
-  module _ (good : refusal 8 bs ≡ 0) where
+  module _ (good : refusal bs ≡ 0) where
     sound : (limit room : ℕ) → runs.Sound (systemOf 8 (grammarOf bs)) (In (byNumber (grammarOf bs))) limit room (back bs limit room)
     sound limit room =
         subst (runs.Sound (systemOf 8 (grammarOf bs)) (In (byNumber (grammarOf bs))) limit room) (sym (taken good limit room))
@@ -113,11 +113,11 @@ refused-exactly bs limit room k = record {
   nothing = λ b. refused bs k b limit room;
 }
   where
-    sound-answer : refusal 8 bs ≡ 0
+    sound-answer : refusal bs ≡ 0
         → runs.Says (systemOf 8 (grammarOf bs)) (In (byNumber (grammarOf bs))) limit room (ran bs limit room) (said (ran bs limit room))
     sound-answer e = runs-shown.outcome-sound (systemOf 8 (grammarOf bs)) (byNumber (grammarOf bs)) limit room .says
 
-    go : answer bs limit room ≡ Refused k → (refusal 8 bs ≡ 0) ⊎ ((j : ℕ) × Breaks 8 bs j) → Breaks 8 bs k
+    go : answer bs limit room ≡ Refused k → (refusal bs ≡ 0) ⊎ ((j : ℕ) × Breaks bs j) → Breaks bs k
     go h (inl e) =
         absurd
         (subst (runs.Says (systemOf 8 (grammarOf bs)) (In (byNumber (grammarOf bs))) limit room (ran bs limit room))
@@ -125,7 +125,7 @@ refused-exactly bs limit room k = record {
     go h (inr (j, b)) =
         let q : Refused j ≡ Refused k = ap said (sym (refused bs j b limit room)) ∙ h in
         let n : j ≡ k = cc in
-        subst (Breaks 8 bs) n b
+        subst (Breaks bs) n b
 
 -- ---- demand 2
 pub circular-shown : CircularShownAlways back
@@ -135,16 +135,16 @@ circular-shown bs limit room p h =
     let root = subst (runs.Says (systemOf 8 (grammarOf bs)) (In (byNumber (grammarOf bs))) limit room (back bs limit room)) h (s .says) in
     record {
       complete =
-          root-complete 8 (grammarOf bs) (obeys 8 bs good .0) (obeys 8 bs good .1) (back bs limit room .entries) (s .made) p
+          root-complete 8 (grammarOf bs) (obeys bs good .0) (obeys bs good .1) (back bs limit room .entries) (s .made) p
           (back bs limit room .report .root) root;
       circle =
-          root-circle 8 (grammarOf bs) (obeys 8 bs good .0) (obeys 8 bs good .1) (back bs limit room .entries) (s .made) p
+          root-circle 8 (grammarOf bs) (obeys bs good .0) (obeys bs good .1) (back bs limit room .entries) (s .made) p
           (back bs limit room .report .root) root;
       root-earlier =
-          root-earlier 8 (grammarOf bs) (obeys 8 bs good .0) (obeys 8 bs good .1) (back bs limit room .entries) (s .made) p
+          root-earlier 8 (grammarOf bs) (obeys bs good .0) (obeys bs good .1) (back bs limit room .entries) (s .made) p
           (back bs limit room .report .root) root;
-      earlier = earlier 8 (grammarOf bs) (obeys 8 bs good .0) (obeys 8 bs good .1) (back bs limit room .entries) (s .made);
-      again = again 8 (grammarOf bs) (obeys 8 bs good .0) (obeys 8 bs good .1) (back bs limit room .entries) (s .made);
+      earlier = earlier 8 (grammarOf bs) (obeys bs good .0) (obeys bs good .1) (back bs limit room .entries) (s .made);
+      again = again 8 (grammarOf bs) (obeys bs good .0) (obeys bs good .1) (back bs limit room .entries) (s .made);
     }
 
 -- after noncircular the store has every tree
@@ -154,7 +154,7 @@ full : (bs : List ℕ) (limit room : ℕ) → answer bs limit room ≡ Noncircul
 full bs limit room h =
     let good = not-refused bs limit room Noncircular h (λ e. omega arith) in
     let s = sound bs good limit room in
-    saturated 8 (grammarOf bs) (obeys 8 bs good .0) (obeys 8 bs good .1) (back bs limit room .entries)
+    saturated 8 (grammarOf bs) (obeys bs good .0) (obeys bs good .1) (back bs limit room .entries)
     (subst (runs.Says (systemOf 8 (grammarOf bs)) (In (byNumber (grammarOf bs))) limit room (back bs limit room)) h (s .says) .0)
 
 pub noncircular-none : NoncircularNoneAlways back
@@ -165,7 +165,7 @@ noncircular-none bs limit room h t w c =
 pub steps-exactly : StepsExactlyAlways back
 steps-exactly bs L M room lt = go (either bs)
   where
-    go : (refusal 8 bs ≡ 0) ⊎ ((k : ℕ) × Breaks 8 bs k) → StepsExactly bs L M room (back bs L room)
+    go : (refusal bs ≡ 0) ⊎ ((k : ℕ) × Breaks bs k) → StepsExactly bs L M room (back bs L room)
     go (inl e) =
         let x = runs-shown.steps-exactly (systemOf 8 (grammarOf bs)) (byNumber (grammarOf bs)) L M room lt in
         let y = subst₂ (runs.StepsCompared L) (sym (taken bs e L room)) (sym (taken bs e M room)) x in
@@ -184,7 +184,7 @@ steps-exactly bs L M room lt = go (either bs)
 pub room-exactly : RoomExactlyAlways back
 room-exactly bs limit l R S lt low high = go (either bs)
   where
-    go : (refusal 8 bs ≡ 0) ⊎ ((k : ℕ) × Breaks 8 bs k) → RoomExactly bs limit l R S (back bs limit R)
+    go : (refusal bs ≡ 0) ⊎ ((k : ℕ) × Breaks bs k) → RoomExactly bs limit l R S (back bs limit R)
     go (inl e) =
         let W = systemOf 8 (grammarOf bs) in
         let c = ap (λ (o : Outcome). o .report .closures) (taken bs e limit R) in
@@ -208,7 +208,7 @@ room-exactly bs limit l R S lt low high = go (either bs)
 pub room-counts : RoomCountsAlways back
 room-counts bs limit R unbroken calm enough = go (answer bs limit R) refl (s .says)
   where
-    good : refusal 8 bs ≡ 0
+    good : refusal bs ≡ 0
     good = when-unbroken bs unbroken
 
     s : runs.Sound (systemOf 8 (grammarOf bs)) (In (byNumber (grammarOf bs))) limit R (back bs limit R)
@@ -223,7 +223,7 @@ room-counts bs limit R unbroken calm enough = go (answer bs limit R) refl (s .sa
     go Noncircular h says =
         let g = grammarOf bs in
         let es = back bs limit R .entries in
-        let o = obeys 8 bs good in
+        let o = obeys bs good in
         let full = saturated 8 g (o .0) (o .1) es (says .0) in
         record {
           exactly = (
@@ -251,7 +251,7 @@ room-counts bs limit R unbroken calm enough = go (answer bs limit R) refl (s .sa
     go OutOfRoom h says =
         let g = grammarOf bs in
         let es = back bs limit R .entries in
-        let o = obeys 8 bs good in
+        let o = obeys bs good in
         let x = says .1 in
         let l = one-more 8 g (o .0) (o .1) es (s .made) (s .different) (x .extra) (x .made) (x .new) in
         record {
@@ -266,10 +266,10 @@ never-still bs limit room h t w =
     let good = not-refused bs limit room Noncircular h (λ e. omega arith) in
     let none = noncircular-none bs limit room h t w in
     record {
-      goes-on = evaluators.never-still (grammarOf bs) (obeys 8 bs good .0) (InTable (grammarOf bs)) t w none;
-      all-computed = λ {n} {d} r s. evaluators.all-computed (grammarOf bs) (obeys 8 bs good .0) (InTable (grammarOf bs)) t w none r s .0;
+      goes-on = evaluators.never-still (grammarOf bs) (obeys bs good .0) (InTable (grammarOf bs)) t w none;
+      all-computed = λ {n} {d} r s. evaluators.all-computed (grammarOf bs) (obeys bs good .0) (InTable (grammarOf bs)) t w none r s .0;
       counts = λ {n} {d} r. evaluators.takings (grammarOf bs) t r;
-      ends = λ {n} {d} r s. evaluators.all-computed (grammarOf bs) (obeys 8 bs good .0) (InTable (grammarOf bs)) t w none r s .1;
+      ends = λ {n} {d} r s. evaluators.all-computed (grammarOf bs) (obeys bs good .0) (InTable (grammarOf bs)) t w none r s .1;
     }
 
 pub stands-still : StandsStillLeftAlways back
@@ -280,7 +280,7 @@ stands-still bs limit room p h =
     record {
       left-over = λ {n} {d} r.
           let x = c .circle in
-          let y = evaluators.left-over (grammarOf bs) (obeys 8 bs good .0) (InTable (grammarOf bs)) t (c .complete) r (x .0) (x .1) in
+          let y = evaluators.left-over (grammarOf bs) (obeys bs good .0) (InTable (grammarOf bs)) t (c .complete) r (x .0) (x .1) in
           (x .0, y .0, y .1);
       stands = evaluators.stood (grammarOf bs) t;
       ends = λ {n} {d} r. evaluators.run-ends (grammarOf bs) t r;

@@ -38,7 +38,7 @@ short-A : answer (take 23 tableA) 10 3 ≡ Refused 1
 unfolding opened tableA
 short-A = refl
 
-header-A : Breaks 8 (take 23 tableA) 1
+header-A : Breaks (take 23 tableA) 1
 header-A = refused-exactly (take 23 tableA) 10 3 1 .exactly .0 short-A
 
 noncircular-A : answer tableA 10 3 ≡ Noncircular
@@ -132,7 +132,7 @@ twice-B : answer (set (set tableB 103 0) 105 2) 3 2 ≡ Refused 7
 unfolding opened tableB
 twice-B = refl
 
-order-B : Breaks 8 (set (set tableB 103 0) 105 2) 7
+order-B : Breaks (set (set tableB 103 0) 105 2) 7
 order-B = refused-exactly (set (set tableB 103 0) 105 2) 3 2 7 .exactly .0 twice-B
 
 -- ---- the demands at R, which has trees without end
@@ -181,5 +181,5 @@ short-R : answer (take 67 tableR) 5 2 ≡ Refused 3
 unfolding opened tableR
 short-R = refl
 
-offsets-R : Breaks 8 (take 67 tableR) 3
+offsets-R : Breaks (take 67 tableR) 3
 offsets-R = refused-exactly (take 67 tableR) 5 2 3 .exactly .0 short-R

@@ -40,7 +40,7 @@ abbrev pub answer : List ℕ → ℕ → ℕ → Answer
 answer bs limit room = said (back bs limit room)
 
 abbrev pub NoRuleBroken : List ℕ → Type 0
-NoRuleBroken bs = (k : ℕ) → ¬ Breaks 8 bs k
+NoRuleBroken bs = (k : ℕ) → ¬ Breaks bs k
 
 -- a finite complete tree of the table's grammar, rooted at any symbol
 abbrev pub TreeOf : List ℕ → Tree → Type 0
@@ -80,8 +80,8 @@ pub record TreePair (bs : List ℕ) (q : ℕ × ℕ) : Type 0 where
 
 -- ---- demand 1: a bad table is refused by number, and no other; then nothing is counted or stored
 pub record RefusedExactly (bs : List ℕ) (k : ℕ) (o : Outcome) : Type 0 where
-  pub exactly : (said o ≡ Refused k) ↔ Breaks 8 bs k
-  pub nothing : Breaks 8 bs k → o ≡ outcome (Refused k) noRoot empty 0
+  pub exactly : (said o ≡ Refused k) ↔ Breaks bs k
+  pub nothing : Breaks bs k → o ≡ outcome (Refused k) noRoot empty 0
 
 abbrev pub RefusedExactlyAlways : Version → Type 0
 RefusedExactlyAlways v = (bs : List ℕ) (limit room k : ℕ) → RefusedExactly bs k (v bs limit room)

@@ -52,7 +52,7 @@ pub record Program (bs : List ℕ) (limit : ℕ) (σ : Slices) (r : Report) (τ 
   pub report : r ≡ back bs limit (roomOf σ) .report
   pub entries : (k : ℕ) → k < r .entries → Stands bs limit σ τ k
   pub rest : RestBefore (r .entries) σ τ
-  pub untouched : (k : ℕ) → Breaks 8 bs k → τ ≡ σ
+  pub untouched : (k : ℕ) → Breaks bs k → τ ≡ σ
   pub whole : readOut r τ ≡ back bs limit (roomOf σ)
   pub demanded : Demanded bs limit (roomOf σ) (readOut r τ)
 

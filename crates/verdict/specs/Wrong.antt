@@ -35,9 +35,9 @@ BeginsOnePass bs limit room v = v bs limit room .report .passes ≤ 1
 -- one honest pass, and then noncircular
 abbrev pub onePass : Version
 onePass bs limit room =
-    cond (eqb (refusal 8 bs) 0)
+    cond (eqb (refusal bs) 0)
     (after empty 1 (pass (systemOf 8 (grammarOf bs)) limit room (byNumber (grammarOf bs)) empty) (λ s. outcome Noncircular noRoot s 1))
-    (outcome (numbered (refusal 8 bs)) noRoot empty 0)
+    (outcome (numbered (refusal bs)) noRoot empty 0)
 
 -- the count of closures is the invented number n
 abbrev pub AlwaysCounts : ℕ → Version → Type 0

@@ -11,7 +11,7 @@ use Rattle.checks.proofs.check.Tie as tie
 
 returns : tie.Need-returns
 unfolding checked
-returns c = ap checked (sym (refusal-one 8 (c .before .before .args .table .now) (c .if1 .taken)))
+returns c = ap checked (sym (refusal-one (c .before .before .args .table .now) (c .if1 .taken)))
 
 counts-ok-requires : tie.Need-counts-ok-requires
 counts-ok-requires c κs = search needs
@@ -20,7 +20,7 @@ returns-2 : tie.Need-returns-2
 unfolding checked
 returns-2 c =
     let bad = sym (c .before .counts-ok .ensures) ∙ not-true _ (c .if2 .taken) in
-    ap checked (sym (refusal-two 8 (c .before .before .before .before .args .table .now) (c .before .before .if1 .left) bad))
+    ap checked (sym (refusal-two (c .before .before .before .before .args .table .now) (c .before .before .if1 .left) bad))
 
 offsets-ok-requires : tie.Need-offsets-ok-requires
 offsets-ok-requires c κs = search needs
@@ -30,7 +30,7 @@ unfolding checked
 returns-3 c =
     let counts = sym (c .before .before .before .counts-ok .ensures) ∙ not-false _ (c .before .before .if2 .left) in
     let bad = sym (c .before .offsets-ok .ensures) ∙ not-true _ (c .if3 .taken) in
-    ap checked (sym (refusal-three 8 (c .before .before .before .before .before .before .args .table .now) (c .before .before .before .before .if1 .left) counts bad))
+    ap checked (sym (refusal-three (c .before .before .before .before .before .before .args .table .now) (c .before .before .before .before .if1 .left) counts bad))
 
 check-symbols-requires : tie.Need-check-symbols-requires
 check-symbols-requires c κs = search needs
@@ -49,7 +49,7 @@ returns-4 c =
     let bad = whole-refused 4 _ _ (sym (c .before .before .check-symbols .ensures) ∙ c .enum-told2 .given .1) in
     c .before .before .check-symbols .ensures
     ∙ ap (whole 4) bad
-    ∙ ap checked (sym (refusal-four 8 (c .before .before .before .before .before .before .before .before .before .args .table .now) (c .before .before .before .before .before .before .before .if1 .left) counts offsets bad))
+    ∙ ap checked (sym (refusal-four (c .before .before .before .before .before .before .before .before .before .args .table .now) (c .before .before .before .before .before .before .before .if1 .left) counts offsets bad))
 
 check-productions-requires : tie.Need-check-productions-requires
 check-productions-requires c κs = search needs
@@ -69,7 +69,7 @@ returns-5 c =
     let bad = whole-refused 5 _ _ (sym (c .before .before .check-productions .ensures) ∙ c .enum-told4 .given .1) in
     c .before .before .check-productions .ensures
     ∙ ap (whole 5) bad
-    ∙ ap checked (sym (refusal-five 8 (c .before .before .before .before .before .before .before .before .before .before .before .before .args .table .now) (c .before .before .before .before .before .before .before .before .before .before .if1 .left) counts offsets symbols bad))
+    ∙ ap checked (sym (refusal-five (c .before .before .before .before .before .before .before .before .before .before .before .before .args .table .now) (c .before .before .before .before .before .before .before .before .before .before .if1 .left) counts offsets symbols bad))
 
 check-edges-requires : tie.Need-check-edges-requires
 check-edges-requires c κs = search needs
@@ -83,7 +83,7 @@ returns-6 c =
     c .check-edges .ensures
     ∙ ap
     checked
-    (sym (refusal-edges 8 (c .before .before .before .before .before .before .before .before .before .before .before .before .before .args .table .now) (c .before .before .before .before .before .before .before .before .before .before .before .if1 .left) counts offsets symbols productions))
+    (sym (refusal-edges (c .before .before .before .before .before .before .before .before .before .before .before .before .before .args .table .now) (c .before .before .before .before .before .before .before .before .before .before .before .if1 .left) counts offsets symbols productions))
 
 pub check-spec : {M : Type 1} → statement M
 check-spec =

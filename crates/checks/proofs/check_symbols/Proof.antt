@@ -11,7 +11,7 @@ use Rattle.numbers.specs.Lists.{every, upFrom}
 use Rattle.numbers.proofs.Every.{passes-in, fails-in, passes-range}
 use Rattle.grammar.specs.Steps.{handedUp, whole}
 use Rattle.grammar.specs.Refusal.{symbolOk}
-use Rattle.grammar.specs.Table.{N, atSymbols, symbolIn, grammarOf}
+use Rattle.grammar.specs.Table.{N, attributes, atSymbols, symbolIn, grammarOf}
 use Rattle.grammar.proofs.Handing.{lost, fine, refused}
 use Rattle.grammar.proofs.Lookups.{symbol-there}
 use Rattle.grammar.proofs.Read.{the-type}
@@ -22,8 +22,8 @@ abbrev Inv-loop : tie.InvT-loop
 Inv-loop table count s₀ s =
     (s ≤ count)
     × (count ≡ N table)
-    × (every (symbolOk 8) (map (λ i. symbolIn table (atSymbols + 2 * i)) (upFrom s (N table - s)))
-    ≡ every (symbolOk 8) (grammarOf table .symbols))
+    × (every (symbolOk attributes) (map (λ i. symbolIn table (atSymbols + 2 * i)) (upFrom s (N table - s)))
+    ≡ every (symbolOk attributes) (grammarOf table .symbols))
 
 abbrev μ-loop : tie.MeasureT-loop
 μ-loop table count s₀ s = count - s
@@ -56,7 +56,7 @@ returns c =
     let q = c .before .before .read-symbol .ensures in
     let t = subst (λ r. OneOf (1 ∷ 2 ∷ 3 ∷ []) (tagOf the-type r)) q (c .before .match .keys2) in
     let bad = refused _ _ 4 (1 ∷ 2 ∷ 3 ∷ []) (miss (1 ∷ 2 ∷ 3 ∷ []) 0 tt) t in
-    let all = fails-in (symbolOk 8) (λ i. symbolIn bs (atSymbols + 2 * i)) s (N bs) h (ap (symbolOk 8) (sym (symbol-there bs s h)) ∙ bad) in
+    let all = fails-in (symbolOk attributes) (λ i. symbolIn bs (atSymbols + 2 * i)) s (N bs) h (ap (symbolOk attributes) (sym (symbol-there bs s h)) ∙ bad) in
     c .handed-up .ensures ∙ ap handedUp (q ∙ lost _ _ 4 bad) ∙ ap (whole 4) (sym all ∙ c .before .before .before .before .loop .inv .2)
 
 add-s : tie.Need-add-s Inv-loop μ-loop
@@ -73,14 +73,14 @@ loop-again c =
     let good = fine _ _ 4 _ (λ e. omega arith) (sym (c .before .before .read-symbol .ensures) ∙ c .enum-told .given .1) .0 in (
       omega arith,
       c .before .before .before .before .loop .inv .1,
-      passes-in (symbolOk 8) (λ i. symbolIn bs (atSymbols + 2 * i)) s (N bs) h (ap (symbolOk 8) (sym (symbol-there bs s h)) ∙ good) ∙ c .before .before .before .before .loop .inv .2,
+      passes-in (symbolOk attributes) (λ i. symbolIn bs (atSymbols + 2 * i)) s (N bs) h (ap (symbolOk attributes) (sym (symbol-there bs s h)) ∙ good) ∙ c .before .before .before .before .loop .inv .2,
     )
 
 returns-2 : tie.Need-returns-2 Inv-loop μ-loop
 unfolding whole
 returns-2 c =
     let bs = c .before .before .before .before .args .table .now in
-    ap (whole 4) (sym (passes-range (symbolOk 8) (λ i. symbolIn bs (atSymbols + 2 * i)) (c .before .loop .s) (N bs) (omega arith)) ∙ c .before .loop .inv .2)
+    ap (whole 4) (sym (passes-range (symbolOk attributes) (λ i. symbolIn bs (atSymbols + 2 * i)) (c .before .loop .s) (N bs) (omega arith)) ∙ c .before .loop .inv .2)
 
 pub check-symbols-spec : {M : Type 1} → statement M
 check-symbols-spec =

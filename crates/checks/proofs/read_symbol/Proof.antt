@@ -2,6 +2,7 @@
 use mathlib.Core.Path.{sym, ap, _∙_}
 use borrow.Author.Needs.{needs}
 use Rattle.grammar.specs.declared.Read.{Read}
+use Rattle.grammar.specs.Table.{attributes}
 use Rattle.grammar.specs.Steps.{symbolRead}
 use Rattle.grammar.proofs.Handing.{kept, lost}
 use Rattle.checks.proofs.read_symbol.Statement.{statement}
@@ -16,12 +17,12 @@ symbol-ok-requires c κs = search needs
 returns : tie.Need-returns
 returns c =
     let good = sym (c .before .symbol-ok .ensures) ∙ c .if1 .taken in
-    sym (kept _ (Read.Symbol (c .before .before .symbol-of .result)) 4 good) ∙ ap symbolRead (c .before .before .symbol-of .ensures)
+    sym (kept _ (Read.Symbol (c .before .before .symbol-of .result)) 4 good) ∙ ap (symbolRead attributes) (c .before .before .symbol-of .ensures)
 
 returns-2 : tie.Need-returns-2
 returns-2 c =
     let bad = sym (c .before .symbol-ok .ensures) ∙ c .if1 .left in
-    sym (lost _ (Read.Symbol (c .before .before .symbol-of .result)) 4 bad) ∙ ap symbolRead (c .before .before .symbol-of .ensures)
+    sym (lost _ (Read.Symbol (c .before .before .symbol-of .result)) 4 bad) ∙ ap (symbolRead attributes) (c .before .before .symbol-of .ensures)
 
 pub read-symbol-spec : {M : Type 1} → statement M
 read-symbol-spec = tie.close (tie.spec symbol-of-requires symbol-ok-requires returns returns-2)
