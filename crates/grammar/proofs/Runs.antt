@@ -16,7 +16,8 @@ use Rattle.numbers.proofs.Keeping.{upFrom-split, map-same, map-moved, keep-appe
 use Rattle.grammar.specs.declared.Edge.{Edge}
 use Rattle.grammar.specs.Grammar.{edgesOf}
 use Rattle.grammar.specs.Table.{P, E, atEdges, total, edgeIn, edgesIn, grammarOf}
-use Rattle.grammar.specs.Reading.{producing, further, seek, firstOf, endOf, runOf}
+use Rattle.grammar.specs.Search.{producing, further, seek, runStart, runEnd}
+use Rattle.grammar.specs.Reading.{runOf}
 use Rattle.grammar.proofs.Seeking.{further-few, further-on, further-not, run-none, run-there}
 
 -- the edges from `at` on are of p or above, those before it are below p
@@ -65,22 +66,22 @@ module _ (bs : List ℕ) (sorted : (i j : ℕ) → i ≤ j → j < E bs → prod
               (next at h low (λ i u v. omega (arith, sorted (at + 2 ^ k - 1) i (omega arith) v)))
 
   module _ (few : E bs ≤ 65535) (p : ℕ) where
-    pub first-splits : Splits bs p (firstOf bs p)
+    pub first-splits : Splits bs p (runStart bs p)
     first-splits = seek-splits p 16 0 (omega arith) (λ i u. absurd (omega arith)) (λ i u v. absurd (omega arith)) .0
 
-    pub end-splits : Splits bs (p + 1) (endOf bs p) × (firstOf bs p ≤ endOf bs p)
+    pub end-splits : Splits bs (p + 1) (runEnd bs p) × (runStart bs p ≤ runEnd bs p)
     end-splits =
         seek-splits
         (p + 1)
         16
-        (firstOf bs p)
+        (runStart bs p)
         (first-splits .inside)
         (λ i u. omega (arith, first-splits .low i u))
         (λ i u v. absurd (omega arith))
 
     -- all edges of p, by number
     pub all-of :
-        edgesOf (grammarOf bs) p ≡ map (λ i. edgeIn bs (atEdges bs + 6 * i)) (upFrom (firstOf bs p) (endOf bs p - firstOf bs p))
+        edgesOf (grammarOf bs) p ≡ map (λ i. edgeIn bs (atEdges bs + 6 * i)) (upFrom (runStart bs p) (runEnd bs p - runStart bs p))
     unfolding grammarOf edgeIn
     all-of =
         ap (λ l. keep t (map f l)) split
@@ -89,10 +90,10 @@ module _ (bs : List ℕ) (sorted : (i j : ℕ) → i ≤ j → j < E bs → prod
         ∙ ap₂ _++_ (keep-none t f 0 first (λ k l u. ne-eqb _ _ (λ e. under k u e))) later
       where
         first : ℕ
-        first = firstOf bs p
+        first = runStart bs p
 
         end : ℕ
-        end = endOf bs p
+        end = runEnd bs p
 
         n : ℕ
         n = end - first
@@ -186,8 +187,8 @@ module _
     (p : ℕ) where
   some : p < P bs → edgesIn (runOf bs p) ≡ edgesOf (grammarOf bs) p
   some h =
-      let first = firstOf bs p in
-      let n = endOf bs p - first in
+      let first = runStart bs p in
+      let n = runEnd bs p - first in
       let split = end-splits bs sorted few p in
       let last = split .0 .inside in
       let forward = split .1 in

@@ -13,7 +13,8 @@ use lib.ListN.{length, take, drop}
 use Rattle.numbers.specs.Lists.{both}
 use Rattle.numbers.proofs.Parts.{clipped}
 use Rattle.grammar.specs.Table.{P, E, atEdges}
-use Rattle.grammar.specs.Reading.{producing, further, seek, firstOf, endOf, runOf}
+use Rattle.grammar.specs.Search.{producing, further, seek, runStart, runEnd}
+use Rattle.grammar.specs.Reading.{runOf}
 
 module _ (bs : List ℕ) (p step at : ℕ) where
   -- fewer edges than that
@@ -72,7 +73,7 @@ module _ (bs : List ℕ) (p : ℕ) where
   run-none h = simp (le-ltb _ _ h)
 
   pub run-there :
-      p < P bs → runOf bs p ≡ take (6 * (endOf bs p - firstOf bs p)) (drop (atEdges bs + 6 * firstOf bs p) bs)
+      p < P bs → runOf bs p ≡ take (6 * (runEnd bs p - runStart bs p)) (drop (atEdges bs + 6 * runStart bs p) bs)
   unfolding runOf
   run-there h = simp (lt-ltb _ _ h)
 
@@ -80,7 +81,7 @@ module _ (bs : List ℕ) (p : ℕ) where
   pub run-found :
       (first end : ℕ)
       → p < P bs
-      → first ≡ firstOf bs p
+      → first ≡ runStart bs p
       → end ≡ seek 16 bs (p + 1) first
       → first ≤ end
       → take
@@ -89,6 +90,6 @@ module _ (bs : List ℕ) (p : ℕ) where
       ≡ runOf bs p
   run-found first end h f e l =
       let many : atEdges bs + 6 * end - (atEdges bs + 6 * first) ≡ 6 * (end - first) = omega arith in
-      let last : end ≡ endOf bs p = rw f at e in
+      let last : end ≡ runEnd bs p = rw f at e in
       clipped bs (atEdges bs + 6 * first) (atEdges bs + 6 * end) (omega arith)
       ∙ rw (many, last, f) (sym (run-there h))

@@ -11,7 +11,7 @@ use Rattle.numbers.proofs.Ordered.{below-trans, below-first, stands-at}
 use Rattle.grammar.specs.declared.Edge.{Edge}
 use Rattle.grammar.specs.Table.{E, edgeIn, grammarOf}
 use Rattle.grammar.specs.Rules.{GoodEdge, GoodEdges, BeforeEdges, Breaks, header-short, counts, offsets, symbol-bad, production-bad, edge-bad, edge-order, edge, key, noEdge}
-use Rattle.grammar.specs.Reading.{producing}
+use Rattle.grammar.specs.Search.{producing}
 use Rattle.grammar.specs.Valid.{Valid, TakenIsValid}
 use Rattle.grammar.proofs.Lookups.{edge-there, edges-many, productions-many}
 use Rattle.grammar.proofs.Refused.{Ending, taken, refused, ending}

@@ -4,6 +4,7 @@ pub mod Fits
 pub mod Table
 pub mod Rules
 pub mod Refusal
+pub mod Search
 pub mod Reading
 pub mod Steps
 pub mod Valid

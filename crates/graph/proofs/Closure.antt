@@ -9,7 +9,8 @@ use native.Mathlib.Decide.{decLt, ℕ-discrete}
 use native.Mathlib.Omega.{arith}
 use lib.ListN.{length, getD, List·getD-map, List·getD-eq-default}
 use Rattle.numbers.specs.Number.{bit}
-use Rattle.numbers.specs.Paths.{Plus, Circle, Leads, ways}
+use Rattle.numbers.specs.Paths.{Plus, Circle, Leads}
+use Rattle.numbers.specs.Ways.{ways}
 use Rattle.numbers.proofs.Bits.{bit-lt, bit-zero, bit-or}
 use Rattle.numbers.proofs.Ways.{ways-iff}
 use Rattle.graph.specs.Rows.{bits, join, through, step, stepsTo, closure, orElse, circleTo, hasCircle}

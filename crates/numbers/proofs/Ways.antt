@@ -5,7 +5,8 @@ use mathlib.Core.Logic.{_⊎_, inl, inr, ⊎-elim, _↔_}
 use Prim.Native.Nat.{ℕ, zero, suc, _<_}
 use native.Mathlib.Decide.{ℕ-discrete}
 use native.Mathlib.Omega.{arith}
-use Rattle.numbers.specs.Paths.{Plus, one, snoc, Leads, ways}
+use Rattle.numbers.specs.Paths.{Plus, one, snoc, Leads}
+use Rattle.numbers.specs.Ways.{ways}
 
 -- a path in one relation is one in another that has all its edges
 pub carried : {A : Type 0} {E F : A → A → Type 0} → ((x y : A) → E x y → F x y) → {x y : A} → Plus E x y → Plus F x y

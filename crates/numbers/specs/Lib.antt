@@ -2,3 +2,4 @@
 pub mod Number
 pub mod Lists
 pub mod Paths
+pub mod Ways

@@ -1,6 +1,6 @@
--- Paths in a relation, and circles; the paths through some nodes only, as numbers. Assumes nothing.
+-- Paths in a relation, and circles. Assumes nothing.
 use mathlib.Core.Path.{_≡_}
-use Prim.Native.Nat.{ℕ, zero, suc, max, min}
+use Prim.Native.Nat.{ℕ}
 
 -- a path of one or more edges of E from x
 pub data Plus {A : Type 0} (E : A → A → Type 0) (x : A) : A → Type 0 where
@@ -14,8 +14,3 @@ Circle {A} E = (x : A) × Plus E x x
 -- m i j is 1 where an edge leads from i to j, and 0 elsewhere
 abbrev pub Leads : (ℕ → ℕ → ℕ) → ℕ → ℕ → Type 0
 Leads m i j = m i j ≡ 1
-
--- the same for the paths all of whose nodes between the ends are below k
-unfoldable pub ways : ℕ → (ℕ → ℕ → ℕ) → ℕ → ℕ → ℕ
-ways zero m i j = m i j
-ways (suc k) m i j = max (ways k m i j) (min (ways k m i k) (ways k m k j))

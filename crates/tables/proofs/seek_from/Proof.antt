@@ -3,7 +3,7 @@ use mathlib.Core.Path.{_≡_, refl, sym, ap, _∙_}
 use Prim.Native.Nat.{_≤_, _-_, _^_}
 use native.Mathlib.Omega.{arith}
 use borrow.Author.Needs.{needs}
-use Rattle.grammar.specs.Reading.{further, seek}
+use Rattle.grammar.specs.Search.{further, seek}
 use Rattle.grammar.proofs.Seeking.{further-ahead, further-inside, seek-none, seek-more, shifted, step-range}
 use Rattle.tables.proofs.seek_from.Statement.{statement}
 use Rattle.tables.proofs.seek_from.Tie as tie

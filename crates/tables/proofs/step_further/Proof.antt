@@ -4,7 +4,7 @@ use Prim.Native.Nat.{_+_, _-_, _*_}
 use native.Mathlib.Omega.{arith}
 use borrow.Author.Needs.{needs}
 use Rattle.numbers.specs.Number.{le2}
-use Rattle.grammar.specs.Reading.{producing}
+use Rattle.grammar.specs.Search.{producing}
 use Rattle.grammar.proofs.Seeking.{further-few, further-on, further-not}
 use Rattle.tables.proofs.step_further.Statement.{statement}
 use Rattle.tables.proofs.step_further.Tie as tie
