@@ -6,20 +6,15 @@ use Prim.Native.Nat.{ℕ, _+_, _*_, _≤_}
 use lib.Dec.{leb}
 use lib.ListN.{length, take}
 use Rattle.numbers.specs.Lists.{both, written}
-use Rattle.grammar.specs.Grammar.{production}
-use Rattle.grammar.specs.Table.{grammarOf}
 use Rattle.rules.specs.declared.Report.{Report}
 use Rattle.rules.specs.declared.Entry.{Entry}
 use Rattle.rules.specs.Passes.{Outcome}
 use Rattle.rules.specs.Test.{test}
 use Rattle.texts.specs.Lines.{entryLine, printed}
+pub use Rattle.texts.specs.Lines.{kidsIn}
 use Rattle.lines.specs.Buffer.{Written}
 use Rattle.passes.specs.Slices.{Slices, roomOf, Tells}
 use Rattle.passes.specs.Follow.{entriesTo}
-
--- how many right symbols a production of the table has
-abbrev pub kidsIn : List ℕ → ℕ → ℕ
-kidsIn bs p = production (grammarOf bs) p .n
 
 -- ---- what is promised
 

@@ -2,14 +2,12 @@
 use mathlib.Core.Path.{_≡_, refl}
 use mathlib.Core.List.{List, [], _∷_, _++_, append-nil}
 use Prim.Native.Nat.{ℕ}
-use Rattle.grammar.specs.Grammar.{production}
-use Rattle.grammar.specs.Table.{grammarOf}
 use Rattle.rules.specs.declared.Answer.the-variants.{Refused}
 use Rattle.rules.specs.Passes.{Outcome}
 use Rattle.rules.specs.Test.{test}
 use Rattle.rules.specs.Opened.{opened}
 use Rattle.rules.specs.Small.{tableA, tableB, tableQ}
-use Rattle.texts.specs.Lines.{ascii, newline, decimal, tagged, firstLine, rest, printed, shown}
+use Rattle.texts.specs.Lines.{ascii, newline, decimal, tagged, firstLine, rest, kidsIn, printed, linesOpened}
 
 -- a refused table prints nothing else
 pub refused-only : (n : ℕ → ℕ) (o : Outcome) (k : ℕ) → o .report .answer ≡ Refused k → printed n o ≡ tagged "refused " k ++ newline
@@ -18,11 +16,11 @@ refused-only n o k e = rw (e, append-nil)
 
 pub decimals :
     decimal 0 ++ decimal 9 ++ decimal 10 ++ decimal 100 ++ decimal 18446744073709551615 ≡ ascii "091010018446744073709551615"
-unfolding shown
+unfolding linesOpened
 decimals = refl
 
 abbrev printedOf : List ℕ → ℕ → ℕ → List ℕ
-printedOf table limit room = printed (λ p. production (grammarOf table) p .n) (test 8 table limit room)
+printedOf table limit room = printed (kidsIn table) (test 8 table limit room)
 
 -- B's report, whole, as `circ` prints it
 pub printed-B :
@@ -31,7 +29,7 @@ pub printed-B :
     ++ ascii "entry 0 symbol 1 production 1 kids graph 2052\n"
     ++ ascii "entry 1 symbol 1 production 2 kids graph 2048\n"
     ++ ascii "root production 0 kids 0\n"
-unfolding opened shown tableB
+unfolding opened linesOpened tableB
 printed-B = refl
 
 abbrev entriesA : List ℕ
@@ -42,11 +40,11 @@ entriesA =
 
 -- A with limits enough, and with one closure less
 pub printed-A : printedOf tableA 10 3 ≡ ascii "noncircular closures 10 entries 3 passes 3\n" ++ entriesA
-unfolding opened shown tableA
+unfolding opened linesOpened tableA
 printed-A = refl
 
 pub printed-steps : printedOf tableA 9 3 ≡ ascii "out-of-steps closures 9 entries 3 passes 3\n" ++ entriesA
-unfolding opened shown tableA
+unfolding opened linesOpened tableA
 printed-steps = refl
 
 -- several kids stand in the order of the right symbols
@@ -59,17 +57,17 @@ pub printed-Q :
     ++ ascii "entry 3 symbol 0 production 2 kids 0 1 graph 4\n"
     ++ ascii "entry 4 symbol 0 production 2 kids 1 0 graph 2\n"
     ++ ascii "entry 5 symbol 0 production 2 kids 1 1 graph 6\n"
-unfolding opened shown tableQ
+unfolding opened linesOpened tableQ
 printed-Q = refl
 
 -- B with room for no more than one entry
 pub printed-room :
     printedOf tableB 3 1
     ≡ ascii "out-of-room closures 2 entries 1 passes 1\n" ++ ascii "entry 0 symbol 1 production 1 kids graph 2052\n"
-unfolding opened shown tableB
+unfolding opened linesOpened tableB
 printed-room = refl
 
 -- B with one byte more
 pub printed-refused : printedOf (tableB ++ (0 ∷ [])) 1000000 1024 ≡ ascii "refused 3\n"
-unfolding opened shown tableB
+unfolding opened linesOpened tableB
 printed-refused = refl

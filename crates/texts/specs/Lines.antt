@@ -7,6 +7,8 @@ use Prim.Native.Nat.{ℕ, zero, suc, _/_}
 use lib.Dec.{ltb}
 use lib.ListN.{take}
 use Rattle.io.specs.Digits.{digits}
+use Rattle.grammar.specs.Grammar.{production}
+use Rattle.grammar.specs.Table.{grammarOf}
 use Rattle.rules.specs.declared.Answer.{Answer}
 use Rattle.rules.specs.declared.Answer.the-variants.{Noncircular, Circular, Refused, OutOfSteps, OutOfRoom}
 use Rattle.rules.specs.declared.Report.{Report}
@@ -80,6 +82,10 @@ rootLine production kids = tagged "root production " production ++ kidsText kids
 
 -- ---- what is printed
 
+-- how many right symbols a production of the table has
+abbrev pub kidsIn : List ℕ → ℕ → ℕ
+kidsIn bs p = production (grammarOf bs) p .n
+
 -- the lines of the entries, numbered from i on; `n` says how many right symbols a production has, and only so many kids count
 unfoldable pub entryLines : (ℕ → ℕ) → ℕ → List Entry → List ℕ
 entryLines n i [] = []
@@ -100,6 +106,6 @@ printed n o =
     ++ rest (o .report .answer) (entryLines n 0 (o .entries)) (λ p. rootLine p (take (n p) (o .report .root)))
 
 -- to name this on an `unfolding` line is to open every rule
-unfoldable pub shown : Unit {0}
+unfoldable pub linesOpened : Unit {0}
 unfolding placesBy places decimal counts firstLine spaced entryLine rootLine entryLines rest printed
-shown = tt
+linesOpened = tt
