@@ -10,12 +10,12 @@ use lib.ListN.{length, length-append}
 use Rattle.io.specs.Digits.{digits, Fewest}
 use Rattle.texts.specs.Lines.{placesBy, places, decimal}
 
-one-place : (fuel n : ℕ) → n < 10 → placesBy fuel n ≡ 1
+pub one-place : (fuel n : ℕ) → n < 10 → placesBy fuel n ≡ 1
 unfolding placesBy
 one-place zero n h = refl
 one-place (suc fuel) n h = rw (lt-ltb _ _ h)
 
-more-places : (fuel n : ℕ) → 10 ≤ n → placesBy (suc fuel) n ≡ suc (placesBy fuel (n / 10))
+pub more-places : (fuel n : ℕ) → 10 ≤ n → placesBy (suc fuel) n ≡ suc (placesBy fuel (n / 10))
 unfolding placesBy
 more-places fuel n h = rw (le-ltb _ _ h)
 

@@ -1,2 +1,3 @@
--- What is printed.
+-- What is printed, and that it tells the outcome.
 pub mod Lines
+pub mod Telling
