@@ -11,15 +11,15 @@ use Rattle.circ.specs.declared.Input.{Input}
 use Rattle.circ.specs.declared.Input.the-variants.{Bytes, Unread}
 
 -- with at most 1,000,000 closures and room for 1,024 entries
-unfoldable pub reportOf : List ℕ → List ℕ
-reportOf bs = printed (kidsIn bs) (test 8 bs 1000000 1024)
+unfoldable pub circText : List ℕ → List ℕ
+circText bs = printed (kidsIn bs) (test bs 1000000 1024)
 
 -- the report over the front of the buffer, and how long it is
 pub record Reported (bs old new : List ℕ) (r : ℕ) : Type 0 where
-  pub text : new ≡ written (reportOf bs) old
-  pub count : r ≡ length (reportOf bs)
+  pub text : new ≡ written (circText bs) old
+  pub count : r ≡ length (circText bs)
 
 -- no more bytes are read than the buffer has
-abbrev pub Within : Input → List ℕ → Type 0
-Within (Bytes n) buf = n ≤ length buf
-Within Unread buf = Unit {0}
+abbrev pub NoMoreThan : Input → List ℕ → Type 0
+NoMoreThan (Bytes n) buf = n ≤ length buf
+NoMoreThan Unread buf = Unit {0}

@@ -2,7 +2,7 @@
 ghost use mathlib.Core.Path.{_≡_};
 ghost use Prim.Native.Nat.{_≤_};
 ghost use lib.ListN.{length};
-ghost use Rattle.circ.specs.Whole.{Reported, Within};
+ghost use Rattle.circ.specs.Whole.{Reported, NoMoreThan};
 use libc::STDERR_FILENO;
 use libc::STDIN_FILENO;
 use libc::STDOUT_FILENO;
@@ -15,7 +15,7 @@ enum Input {
 
 // Reads until the buffer is full or the input ends. An interrupted read counts as one that failed: no signal is caught here.
 fn read_input(buf: &mut [u8]) -> Input
-    ensures { λ r. ⌜ Within r (now (buf .exit)) ⌝ }
+    ensures { λ r. ⌜ NoMoreThan r (now (buf .exit)) ⌝ }
 {
     let mut at = 0;
     while at < buf.len() {

@@ -2,13 +2,14 @@
 ghost use mathlib.Core.Path.{_≡_};
 ghost use Prim.Native.Nat.{_*_, _+_, _<_, _≤_, min};
 ghost use lib.ListN.{length, take, replicate};
-ghost use Rattle.grammar.specs.Table.{nodeIn, edgesIn};
-ghost use Rattle.graph.specs.Rows.{node, link, own, placed, through, mapFirst, targetsTo, closedFirst, hasCircle, rootGraph};
+ghost use Rattle.grammar.specs.Table.{attributes, nodeIn, edgesIn};
+ghost use Rattle.graph.specs.Rows.{node, link, own, placed, through, hasCircle, rootGraph};
+ghost use Rattle.graph.specs.Parts.{mapFirst, targetsTo, closedFirst};
 
 // The number of the node whose occurrence and attribute stand at `at`.
 fn node_at(run: &[u8], at: usize) -> usize
     requires { ⌜ at + 1 < length (now run) ⌝ }
-    ensures { λ r. ⌜ r ≡ node 8 (nodeIn (now (run .entry)) at) ⌝ }
+    ensures { λ r. ⌜ r ≡ node attributes (nodeIn (now (run .entry)) at) ⌝ }
 {
     8 * (run[at] as usize) + run[at + 1] as usize
 }
@@ -27,7 +28,7 @@ fn add_edge(rows: &mut [u64; 64], source: usize, target: usize)
 
 // The edges of a run of edge records.
 pub fn own_rows(run: &[u8]) -> [u64; 64]
-    ensures { λ r. ⌜ r ≡ own 8 (edgesIn (now (run .entry))) (replicate 64 0) ⌝ }
+    ensures { λ r. ⌜ r ≡ own attributes (edgesIn (now (run .entry))) (replicate 64 0) ⌝ }
 {
     let mut rows = [0u64; 64];
     let count = run.len() / 6;
@@ -43,7 +44,7 @@ pub fn own_rows(run: &[u8]) -> [u64; 64]
 // A subtree's pairs, joined in at its occurrence.
 fn place_in(rows: &mut [u64], graph: u64, occurrence: usize)
     requires { ⌜ length (now rows) ≡ 64 ⌝ }
-    ensures { λ _. ⌜ now (rows .exit) ≡ placed 8 occurrence graph (now (rows .entry)) ⌝ }
+    ensures { λ _. ⌜ now (rows .exit) ≡ placed attributes occurrence graph (now (rows .entry)) ⌝ }
 {
     if 8 <= occurrence {
         return;
@@ -56,7 +57,7 @@ fn place_in(rows: &mut [u64], graph: u64, occurrence: usize)
 }
 
 pub fn place(rows: &mut [u64; 64], graph: u64, occurrence: usize)
-    ensures { λ _. ⌜ now (rows .exit) ≡ placed 8 occurrence graph (now (rows .entry)) ⌝ }
+    ensures { λ _. ⌜ now (rows .exit) ≡ placed attributes occurrence graph (now (rows .entry)) ⌝ }
 {
     place_in(rows, graph, occurrence);
 }
@@ -81,7 +82,7 @@ fn step_through(rows: &mut [u64], k: usize, via: u64, m: usize)
 
 // How many nodes the occurrences have, of those that a table has room for.
 fn nodes(occurrences: usize) -> usize
-    ensures { λ r. ⌜ r ≡ min (8 * occurrences) 64 ⌝ }
+    ensures { λ r. ⌜ r ≡ min (attributes * occurrences) 64 ⌝ }
 {
     if occurrences < 8 { 8 * occurrences } else { 64 }
 }
@@ -102,7 +103,7 @@ fn targets(rows: &[u64], m: usize) -> u64
 // nothing and is left out.
 fn close_in(rows: &mut [u64], occurrences: usize)
     requires { ⌜ length (now rows) ≡ 64 ⌝ }
-    ensures { λ _. ⌜ now (rows .exit) ≡ closedFirst (8 * occurrences) (now (rows .entry)) ⌝ }
+    ensures { λ _. ⌜ now (rows .exit) ≡ closedFirst (attributes * occurrences) (now (rows .entry)) ⌝ }
 {
     let m = nodes(occurrences);
     let all = targets(rows, m);
@@ -117,7 +118,7 @@ fn close_in(rows: &mut [u64], occurrences: usize)
 }
 
 pub fn close(rows: &mut [u64; 64], occurrences: usize)
-    ensures { λ _. ⌜ now (rows .exit) ≡ closedFirst (8 * occurrences) (now (rows .entry)) ⌝ }
+    ensures { λ _. ⌜ now (rows .exit) ≡ closedFirst (attributes * occurrences) (now (rows .entry)) ⌝ }
 {
     close_in(rows, occurrences);
 }
@@ -125,7 +126,7 @@ pub fn close(rows: &mut [u64; 64], occurrences: usize)
 // Whether a node of the first occurrences has an edge to itself.
 fn circle_in(rows: &[u64], occurrences: usize) -> bool
     requires { ⌜ length (now rows) ≡ 64 ⌝ }
-    ensures { λ r. ⌜ r ≡ hasCircle (take (8 * occurrences) (now (rows .entry))) ⌝ }
+    ensures { λ r. ⌜ r ≡ hasCircle (take (attributes * occurrences) (now (rows .entry))) ⌝ }
 {
     let n = nodes(occurrences);
     let mut seen: u64 = 0;
@@ -136,14 +137,14 @@ fn circle_in(rows: &[u64], occurrences: usize) -> bool
 }
 
 pub fn has_circle(rows: &[u64; 64], occurrences: usize) -> bool
-    ensures { λ r. ⌜ r ≡ hasCircle (take (8 * occurrences) (now (rows .entry))) ⌝ }
+    ensures { λ r. ⌜ r ≡ hasCircle (take (attributes * occurrences) (now (rows .entry))) ⌝ }
 {
     circle_in(rows, occurrences)
 }
 
 // The pairs among the nodes of the left symbol.
 pub fn root_graph(rows: &[u64; 64]) -> u64
-    ensures { λ r. ⌜ r ≡ rootGraph 8 (now (rows .entry)) ⌝ }
+    ensures { λ r. ⌜ r ≡ rootGraph attributes (now (rows .entry)) ⌝ }
 {
     let mut graph: u64 = 0;
     for a in 0..8 {

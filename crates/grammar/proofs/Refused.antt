@@ -16,7 +16,7 @@ use Rattle.grammar.specs.Table.{N, E, widthOf, grammarOf}
 use Rattle.grammar.specs.Rules.{CountsInRange, OffsetsRight, GoodSymbols, GoodProductions, GoodEdge, AboveBefore, GoodEdges, BeforeEdges, Breaks, header-short, counts, offsets, symbol-bad, production-bad, edge-bad, edge-order, edge, key, noEdge}
 use Rattle.grammar.specs.Refusal.{countsOk, offsetsOk, symbolOk, productionOk, edgeOk, oneEdge, edgesRefusal, refusal}
 use Rattle.grammar.specs.Steps.{inOrder}
-use Rattle.grammar.specs.Valid.{RefusedExactly}
+use Rattle.grammar.specs.Valid.{RefusalExactly}
 use Rattle.grammar.proofs.Lookups.{edges-many}
 use Rattle.grammar.proofs.Handing.{passed, six, seven, edgesLeft, one-more, none-left}
 use Rattle.grammar.proofs.Sequence.{refusal-one, refusal-two, refusal-three, refusal-four, refusal-five, refusal-edges}
@@ -197,5 +197,5 @@ module _ (bs : List ℕ) where
   shown (edge-order b i h all good low) =
       to-edges b ∙ edges-seven (grammarOf bs) i (omega (arith, edges-many bs)) all good low
 
-pub refused-exactly : RefusedExactly
+pub refused-exactly : RefusalExactly
 refused-exactly bs k = (λ e. broken bs k (subst (Ending bs) e (ending bs)), shown bs)

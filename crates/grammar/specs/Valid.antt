@@ -23,8 +23,8 @@ use Rattle.grammar.specs.Refusal.{refusal}
 use Rattle.grammar.specs.Reading.{runOf}
 
 -- a refusal comes exactly for a table that breaks the rule of its number, and none that is looked at before it
-abbrev pub RefusedExactly : Type 0
-RefusedExactly = (bs : List ℕ) (k : ℕ) → (refusal bs ≡ suc k) ↔ Breaks bs (suc k)
+abbrev pub RefusalExactly : Type 0
+RefusalExactly = (bs : List ℕ) (k : ℕ) → (refusal bs ≡ suc k) ↔ Breaks bs (suc k)
 
 -- a table that obeys every rule
 pub record Valid (bs : List ℕ) : Type 0 where

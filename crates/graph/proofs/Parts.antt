@@ -11,7 +11,8 @@ use lib.Bits.{bitOr}
 use lib.ListN.{length, getD, set, take, drop, replicate, length-take, length-replicate, drop-of-length-le}
 use lib.Seq.{getD-take, take-set-lt, take-at, take-all, length-take-le}
 use Rattle.grammar.specs.declared.Edge.{Edge}
-use Rattle.graph.specs.Rows.{node, joinAt, link, own, pairsFrom, placedTo, placed, placedFrom, compound, closure, closedFirst, rootTo, rootGraph}
+use Rattle.graph.specs.Rows.{node, joinAt, link, own, pairsFrom, placedTo, placed, placedFrom, compound, closure, rootTo, rootGraph}
+use Rattle.graph.specs.Parts.{closedFirst}
 use Rattle.graph.specs.Compound.{EdgesWithin}
 use Rattle.graph.proofs.Turns.{link-there, length-link, length-closure}
 use Rattle.graph.proofs.Compound.{NodesBelow, nodes-below}

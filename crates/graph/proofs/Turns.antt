@@ -18,7 +18,8 @@ use Rattle.numbers.specs.Lists.{upFrom}
 use Rattle.numbers.proofs.Bits.{bit-lt, bit-zero, bit-or, or-low}
 use Rattle.numbers.proofs.Parts.{take-clipped, drop-clipped}
 use Rattle.grammar.specs.declared.Edge.{Edge}
-use Rattle.graph.specs.Rows.{node, bits, joinAt, link, own, pairsFrom, placedTo, join, through, step, stepsTo, closure, mapFirst, closedFirst, targetsTo, orElse, circleTo, hasCircle, rootTo}
+use Rattle.graph.specs.Rows.{node, bits, joinAt, link, own, pairsFrom, placedTo, join, through, step, stepsTo, closure, orElse, circleTo, hasCircle, rootTo}
+use Rattle.graph.specs.Parts.{mapFirst, closedFirst, targetsTo}
 use Rattle.graph.proofs.Closure.{step-bits}
 
 -- ---- the rows of the edges

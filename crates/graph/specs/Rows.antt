@@ -5,7 +5,7 @@ use mathlib.Core.List.{List, [], _∷_, _++_, map}
 use Prim.Native.Nat.{ℕ, zero, suc, _+_, _*_, _/_, _%_, _^_}
 use lib.Bits.{bitOr}
 use lib.Dec.{ltb}
-use lib.ListN.{length, getD, set, take, drop, replicate}
+use lib.ListN.{length, getD, set, replicate}
 use Rattle.numbers.specs.Number.{bit}
 use Rattle.grammar.specs.declared.Node.{Node}
 use Rattle.grammar.specs.declared.Edge.{Edge}
@@ -76,19 +76,6 @@ stepsTo (suc k) rows = step k (stepsTo k rows)
 -- one closure
 unfoldable pub closure : List ℕ → List ℕ
 closure rows = stepsTo (length rows) rows
-
--- f of each of the first m rows
-abbrev pub mapFirst : ℕ → (ℕ → ℕ) → List ℕ → List ℕ
-mapFirst m f rows = map f (take m rows) ++ drop m rows
-
--- the closure of the first m nodes, in a table with more rows than there are nodes
-abbrev pub closedFirst : ℕ → List ℕ → List ℕ
-closedFirst m rows = closure (take m rows) ++ drop m rows
-
--- the nodes to which an edge of the first n rows leads, as the bits of one row
-unfoldable pub targetsTo : ℕ → List ℕ → ℕ
-targetsTo zero rows = 0
-targetsTo (suc n) rows = bitOr (targetsTo n rows) (getD rows n 0)
 
 -- ---- what is read off the closed rows
 

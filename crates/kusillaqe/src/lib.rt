@@ -2,11 +2,12 @@
 ghost use mathlib.Core.Path.{_≡_};
 ghost use Prim.Native.Nat.{_*_};
 ghost use lib.ListN.{take, replicate};
-ghost use Rattle.grammar.specs.Table.{edgesIn};
+ghost use Rattle.grammar.specs.Table.{attributes, edgesIn};
 ghost use Rattle.grammar.specs.Refusal.{refusal};
-ghost use Rattle.graph.specs.Rows.{own, placed, closedFirst, hasCircle, rootGraph};
+ghost use Rattle.graph.specs.Rows.{own, placed, hasCircle, rootGraph};
+ghost use Rattle.graph.specs.Parts.{closedFirst};
 ghost use Rattle.rules.specs.Passes.{numberOf, productionOf};
-ghost use Rattle.passes.specs.Slices.{slices};
+ghost use Rattle.passes.specs.Slices.{atEntry, atExit};
 ghost use Rattle.kusillaqe.specs.Flat.{flat, TestedFlat};
 use grammar::Checked;
 use rules::Answer;
@@ -87,9 +88,9 @@ pub extern "C" fn kusillaqe_test(
     report: &mut [u32; 12],
 )
     ensures { λ _. ⌜ TestedFlat (now (table .entry)) limit
-        (slices (now (symbols .entry)) (now (graphs .entry)) (now (productions .entry)) (now (kids .entry)))
+        (atEntry symbols graphs productions kids)
         (now (report .exit))
-        (slices (now (symbols .exit)) (now (graphs .exit)) (now (productions .exit)) (now (kids .exit))) ⌝ }
+        (atExit symbols graphs productions kids) ⌝ }
 {
     let r = passes::test(table, limit, symbols, graphs, productions, kids);
     let out = flat_of(r);
@@ -99,7 +100,7 @@ pub extern "C" fn kusillaqe_test(
 // The rows of a run of edge records.
 #[no_mangle]
 pub extern "C" fn kusillaqe_own_rows(run: &[u8], rows: &mut [u64; 64])
-    ensures { λ _. ⌜ now (rows .exit) ≡ own 8 (edgesIn (now (run .entry))) (replicate 64 0) ⌝ }
+    ensures { λ _. ⌜ now (rows .exit) ≡ own attributes (edgesIn (now (run .entry))) (replicate 64 0) ⌝ }
 {
     let own = closures::own_rows(run);
     *rows = own;
@@ -108,7 +109,7 @@ pub extern "C" fn kusillaqe_own_rows(run: &[u8], rows: &mut [u64; 64])
 // A subtree's pairs, placed at its occurrence.
 #[no_mangle]
 pub extern "C" fn kusillaqe_place(rows: &mut [u64; 64], graph: u64, occurrence: usize)
-    ensures { λ _. ⌜ now (rows .exit) ≡ placed 8 occurrence graph (now (rows .entry)) ⌝ }
+    ensures { λ _. ⌜ now (rows .exit) ≡ placed attributes occurrence graph (now (rows .entry)) ⌝ }
 {
     closures::place(rows, graph, occurrence);
 }
@@ -116,7 +117,7 @@ pub extern "C" fn kusillaqe_place(rows: &mut [u64; 64], graph: u64, occurrence: 
 // The closure of the nodes of the first occurrences.
 #[no_mangle]
 pub extern "C" fn kusillaqe_close(rows: &mut [u64; 64], occurrences: usize)
-    ensures { λ _. ⌜ now (rows .exit) ≡ closedFirst (8 * occurrences) (now (rows .entry)) ⌝ }
+    ensures { λ _. ⌜ now (rows .exit) ≡ closedFirst (attributes * occurrences) (now (rows .entry)) ⌝ }
 {
     closures::close(rows, occurrences);
 }
@@ -124,7 +125,7 @@ pub extern "C" fn kusillaqe_close(rows: &mut [u64; 64], occurrences: usize)
 // Whether a node of the first occurrences leads to itself.
 #[no_mangle]
 pub extern "C" fn kusillaqe_has_circle(rows: &[u64; 64], occurrences: usize) -> bool
-    ensures { λ r. ⌜ r ≡ hasCircle (take (8 * occurrences) (now (rows .entry))) ⌝ }
+    ensures { λ r. ⌜ r ≡ hasCircle (take (attributes * occurrences) (now (rows .entry))) ⌝ }
 {
     closures::has_circle(rows, occurrences)
 }
@@ -132,7 +133,7 @@ pub extern "C" fn kusillaqe_has_circle(rows: &[u64; 64], occurrences: usize) -> 
 // The pairs among the nodes of the left symbol.
 #[no_mangle]
 pub extern "C" fn kusillaqe_root_graph(rows: &[u64; 64]) -> u64
-    ensures { λ r. ⌜ r ≡ rootGraph 8 (now (rows .entry)) ⌝ }
+    ensures { λ r. ⌜ r ≡ rootGraph attributes (now (rows .entry)) ⌝ }
 {
     closures::root_graph(rows)
 }

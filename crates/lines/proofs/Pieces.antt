@@ -4,13 +4,13 @@ use mathlib.Core.List.{List, [], _++_, append-nil, append-assoc}
 use Prim.Native.Nat.{ℕ, _+_, _≤_}
 use native.Mathlib.Omega.{arith}
 use Rattle.lines.specs.declared.Line.{Line}
-use Rattle.lines.specs.Pieces.{text, Follows, Holds}
+use Rattle.lines.specs.Pieces.{text, PieceAfter, LineIs}
 
-pub nothing : (a : Line) → Follows [] 0 a a
+pub nothing : (a : Line) → PieceAfter [] 0 a a
 nothing a = record { text-is = sym (append-nil (text a)); len-is = omega arith }
 
 module _ {p q : List ℕ} {m n : ℕ} {a b c : Line} where
-  pub then : Follows p m a b → Follows q n b c → Follows (p ++ q) (m + n) a c
+  pub then : PieceAfter p m a b → PieceAfter q n b c → PieceAfter (p ++ q) (m + n) a c
   then f g =
       record {
         text-is = g .text-is ∙ ap (λ (t : List ℕ). t ++ q) (f .text-is) ∙ append-assoc (text a) p q;
@@ -18,10 +18,10 @@ module _ {p q : List ℕ} {m n : ℕ} {a b c : Line} where
       }
 
 -- the same piece, and a bound that is no less
-pub within : {p q : List ℕ} {m n : ℕ} {a b : Line} → p ≡ q → m ≤ n → Follows p m a b → Follows q n a b
+pub within : {p q : List ℕ} {m n : ℕ} {a b : Line} → p ≡ q → m ≤ n → PieceAfter p m a b → PieceAfter q n a b
 within {a = a} e h f = record { text-is = f .text-is ∙ ap (λ (t : List ℕ). text a ++ t) e; len-is = omega arith }
 
 -- a line that was begun with nothing
-pub whole : {p : List ℕ} {m : ℕ} {a b : Line} → (text a ≡ []) × (a .len ≡ 0) → m ≤ 128 → Follows p m a b → Holds p b
+pub whole : {p : List ℕ} {m : ℕ} {a b : Line} → (text a ≡ []) × (a .len ≡ 0) → m ≤ 128 → PieceAfter p m a b → LineIs p b
 whole {p = p} e h f =
     record { text-is = f .text-is ∙ ap (λ (t : List ℕ). t ++ p) (e .0); len-is = let z = e .1 in omega arith }

@@ -6,18 +6,18 @@ use Prim.Native.Nat.{ℕ, _+_}
 use lib.Dec.{leb}
 use lib.ListN.{length, take, drop}
 
-abbrev pub fits : List ℕ → ℕ → List ℕ → Bool
-fits line at old = leb (at + length line) (length old)
+abbrev pub lineFits : List ℕ → ℕ → List ℕ → Bool
+lineFits line at old = leb (at + length line) (length old)
 
--- the buffer with the line from `at` on where it fits, else as before
-unfoldable pub put : List ℕ → ℕ → List ℕ → List ℕ
-put line at old = cond (fits line at old) (take at old ++ line ++ drop (at + length line) old) old
+-- the buffer with the line from `at` on where it lineFits, else as before
+unfoldable pub putLine : List ℕ → ℕ → List ℕ → List ℕ
+putLine line at old = cond (lineFits line at old) (take at old ++ line ++ drop (at + length line) old) old
 
--- the place after the line where it fits, else `at`
+-- the place after the line where it lineFits, else `at`
 unfoldable pub next : List ℕ → ℕ → List ℕ → ℕ
-next line at old = cond (fits line at old) (at + length line) at
+next line at old = cond (lineFits line at old) (at + length line) at
 
 -- what a function that puts a line promises of the buffer and of its result
 pub record Written (line : List ℕ) (at : ℕ) (old new : List ℕ) (r : ℕ) : Type 0 where
-  pub buffer : new ≡ put line at old
+  pub buffer : new ≡ putLine line at old
   pub place : r ≡ next line at old

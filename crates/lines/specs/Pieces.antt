@@ -9,11 +9,11 @@ abbrev pub text : Line → List ℕ
 text line = take (line .len) (line .bytes)
 
 -- `r` is the line with a piece of at most so many bytes after it
-pub record Follows (piece : List ℕ) (most : ℕ) (line r : Line) : Type 0 where
+pub record PieceAfter (piece : List ℕ) (most : ℕ) (line r : Line) : Type 0 where
   pub text-is : text r ≡ text line ++ piece
   pub len-is : r .len ≤ line .len + most
 
 -- `r` is a whole line
-pub record Holds (line : List ℕ) (r : Line) : Type 0 where
+pub record LineIs (line : List ℕ) (r : Line) : Type 0 where
   pub text-is : text r ≡ line
   pub len-is : r .len ≤ 128

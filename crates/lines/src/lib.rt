@@ -5,7 +5,7 @@ ghost use Prim.Native.Nat.{_+_, _≤_, min};
 ghost use lib.ListN.{length, take, drop};
 ghost use Rattle.texts.specs.Lines.{newline, decimal, places, tagged, counts, answered, firstLine, kidsText, entryLine, rootLine};
 ghost use Rattle.lines.specs.Buffer.{Written};
-ghost use Rattle.lines.specs.Pieces.{text, Follows, Holds};
+ghost use Rattle.lines.specs.Pieces.{text, PieceAfter, LineIs};
 use rules::Answer;
 use rules::Report;
 
@@ -49,7 +49,7 @@ pub fn put_root(buf: &mut [u8], at: usize, production: u16, root: [u16; 7], n: u
 }
 
 fn first_line(answer: Answer, closures: u32, entries: u16, passes: u16) -> Line
-    ensures { λ r. ⌜ Holds (answered answer (counts closures entries passes)) r ⌝ }
+    ensures { λ r. ⌜ LineIs (answered answer (counts closures entries passes)) r ⌝ }
 {
     match answer {
         Answer::Noncircular => counted(b"noncircular", closures, entries, passes),
@@ -62,7 +62,7 @@ fn first_line(answer: Answer, closures: u32, entries: u16, passes: u16) -> Line
 
 fn counted(word: &[u8], closures: u32, entries: u16, passes: u16) -> Line
     requires { ⌜ length (now word) ≤ 12 ⌝ }
-    ensures { λ r. ⌜ Holds (now (word .entry) ++ counts closures entries passes) r ⌝ }
+    ensures { λ r. ⌜ LineIs (now (word .entry) ++ counts closures entries passes) r ⌝ }
 {
     let to_word = with_word(empty(), word);
     let to_closures = with_number(to_word, b" closures ", closures as u64);
@@ -72,7 +72,7 @@ fn counted(word: &[u8], closures: u32, entries: u16, passes: u16) -> Line
 }
 
 fn refused(number: u8) -> Line
-    ensures { λ r. ⌜ Holds (tagged "refused " number ++ newline) r ⌝ }
+    ensures { λ r. ⌜ LineIs (tagged "refused " number ++ newline) r ⌝ }
 {
     let to_number = with_short(empty(), b"refused ", number as u16);
     with_word(to_number, b"\n")
@@ -86,7 +86,7 @@ fn entry_line(
     n: usize,
     graph: u64,
 ) -> Line
-    ensures { λ r. ⌜ Holds (entryLine number symbol production (take n kids) graph) r ⌝ }
+    ensures { λ r. ⌜ LineIs (entryLine number symbol production (take n kids) graph) r ⌝ }
 {
     let to_number = with_short(empty(), b"entry ", number);
     let to_symbol = with_short(to_number, b" symbol ", symbol);
@@ -97,7 +97,7 @@ fn entry_line(
 }
 
 fn root_line(production: u16, root: [u16; 7], n: usize) -> Line
-    ensures { λ r. ⌜ Holds (rootLine production (take n root)) r ⌝ }
+    ensures { λ r. ⌜ LineIs (rootLine production (take n root)) r ⌝ }
 {
     let to_production = with_short(empty(), b"root production ", production);
     let to_kids = with_kids(to_production, root, n);
@@ -106,7 +106,7 @@ fn root_line(production: u16, root: [u16; 7], n: usize) -> Line
 
 fn with_kids(line: Line, kids: [u16; 7], n: usize) -> Line
     requires { ⌜ line .len + 47 ≤ 128 ⌝ }
-    ensures { λ r. ⌜ Follows (kidsText (take n kids)) 47 line r ⌝ }
+    ensures { λ r. ⌜ PieceAfter (kidsText (take n kids)) 47 line r ⌝ }
 {
     let count = slots(n);
     let mut to_kid = with_word(line, b" kids");
@@ -126,7 +126,7 @@ fn slots(n: usize) -> usize
 
 fn with_kid(line: Line, kid: u16) -> Line
     requires { ⌜ line .len + 6 ≤ 128 ⌝ }
-    ensures { λ r. ⌜ Follows (tagged " " kid) 6 line r ⌝ }
+    ensures { λ r. ⌜ PieceAfter (tagged " " kid) 6 line r ⌝ }
 {
     with_short(line, b" ", kid)
 }
@@ -134,21 +134,21 @@ fn with_kid(line: Line, kid: u16) -> Line
 // A number below 65,536 has at most five digits.
 fn with_short(line: Line, tag: &[u8], n: u16) -> Line
     requires { ⌜ line .len + (length (now tag) + 5) ≤ 128 ⌝ }
-    ensures { λ r. ⌜ Follows (now (tag .entry) ++ decimal n) (length (now (tag .entry)) + 5) line r ⌝ }
+    ensures { λ r. ⌜ PieceAfter (now (tag .entry) ++ decimal n) (length (now (tag .entry)) + 5) line r ⌝ }
 {
     with_places(line, tag, n as u64)
 }
 
 fn with_number(line: Line, tag: &[u8], n: u64) -> Line
     requires { ⌜ line .len + (length (now tag) + 20) ≤ 128 ⌝ }
-    ensures { λ r. ⌜ Follows (now (tag .entry) ++ decimal n) (length (now (tag .entry)) + 20) line r ⌝ }
+    ensures { λ r. ⌜ PieceAfter (now (tag .entry) ++ decimal n) (length (now (tag .entry)) + 20) line r ⌝ }
 {
     with_places(line, tag, n)
 }
 
 fn with_places(line: Line, tag: &[u8], n: u64) -> Line
     requires { ⌜ line .len + (length (now tag) + places n) ≤ 128 ⌝ }
-    ensures { λ r. ⌜ Follows (now (tag .entry) ++ decimal n) (length (now (tag .entry)) + places n) line r ⌝ }
+    ensures { λ r. ⌜ PieceAfter (now (tag .entry) ++ decimal n) (length (now (tag .entry)) + places n) line r ⌝ }
 {
     let mut digits = [0u8; 20];
     let count = io::decimal(n, &mut digits);
@@ -157,7 +157,7 @@ fn with_places(line: Line, tag: &[u8], n: u64) -> Line
 
 fn with_word(line: Line, word: &[u8]) -> Line
     requires { ⌜ line .len + length (now word) ≤ 128 ⌝ }
-    ensures { λ r. ⌜ Follows (now (word .entry)) (length (now (word .entry))) line r ⌝ }
+    ensures { λ r. ⌜ PieceAfter (now (word .entry)) (length (now (word .entry))) line r ⌝ }
 {
     let at = line.len;
     let mut bytes = line.bytes;

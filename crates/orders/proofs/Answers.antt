@@ -11,9 +11,9 @@ use Rattle.rules.specs.declared.Answer.{Answer}
 use Rattle.rules.specs.declared.Answer.the-variants.{Noncircular, Circular, Refused, OutOfSteps, OutOfRoom}
 use Rattle.rules.specs.declared.Entry.{Entry}
 use Rattle.rules.specs.Passes.{System, State, Ran, going, stopped, noRoot, pass, Outcome, outcome, after, empty, passesFrom, passes}
-use Rattle.orders.specs.Stored.{In, Fits, Root, Saturated}
+use Rattle.orders.specs.Stored.{In, FitsIn, Root, AllMade}
 use Rattle.orders.specs.Answers.{Says, Sound, StepsCompared, RoomCompared, OneStored, Verdict, reached, Passed}
-use Rattle.orders.specs.Claims.{OutcomeSound, TurnsStay, FuelSuffices, StepsExactly, RoomExactly, OneMore, VerdictStands, MoreRoom}
+use Rattle.orders.specs.Claims.{OutcomeSound, TurnsStay, FuelSuffices, StepsDecide, RoomDecides, OneMore, VerdictStands, MoreRoom}
 use Rattle.orders.specs.Modes.{Candidate, AllSettled}
 use Rattle.orders.specs.Plans.{Plan, end, End, run, outcomeOf, turnsPlan, afterPass, passesPlan}
 use Rattle.orders.proofs.Combinations.{fits-map, combinations-at, combinations-fit}
@@ -112,12 +112,12 @@ module _ (W : System) (ps : List ℕ) (L R : ℕ) where
   abbrev Over : List Entry → Type 0
   Over = AllSettled (plain W) (In ps)
 
-  saturated : (es : List Entry) → Over es → Saturated W (In ps) es
+  saturated : (es : List Entry) → Over es → AllMade W (In ps) es
   saturated es h p m c f =
       let z = h p m c (fits-map es (λ i. i < length es) (Candidate (plain W) es) (λ i k. (k, tt)) c (W .rights p) f) in
       (z .calm, covered-holds W es (W .left p) (W .graph p _) (z .covered))
 
-  all-offered : (p : ℕ) (es : List Entry) (c : List ℕ) → Fits es (Candidate (plain W) es) c (W .rights p) → List·Memᴰ c (offers W p es)
+  all-offered : (p : ℕ) (es : List Entry) (c : List ℕ) → FitsIn es (Candidate (plain W) es) c (W .rights p) → List·Memᴰ c (offers W p es)
   all-offered p es c f =
       combinations-at es c (W .rights p) (fits-map es (Candidate (plain W) es) (λ i. i < length es) (λ i k. k .0) c (W .rights p) f)
 
@@ -166,7 +166,7 @@ outcome-sound W ps L R =
     })
 
 pub noncircular-saturated : (W : System) (ps : List ℕ) (L R : ℕ) → passes W L R ps .report .answer ≡ Noncircular
-    → Saturated W (In ps) (passes W L R ps .entries)
+    → AllMade W (In ps) (passes W L R ps .entries)
 noncircular-saturated W ps L R e = subst (Says W (In ps) L R (passes W L R ps)) e (outcome-sound W ps L R .says) .0
 
 pub circular-root : (W : System) (ps : List ℕ) (L R p : ℕ) → passes W L R ps .report .answer ≡ Circular p
@@ -174,12 +174,12 @@ pub circular-root : (W : System) (ps : List ℕ) (L R p : ℕ) → passes W L R 
 circular-root W ps L R p e = subst (Says W (In ps) L R (passes W L R ps)) e (outcome-sound W ps L R .says)
 
 -- ---- two limits, two rooms
-pub steps-exactly : StepsExactly
+pub steps-exactly : StepsDecide
 steps-exactly W ps L M R h =
     subst₂ (StepsCompared L) (sym (passes-run W ps L R (suc R) (omega arith))) (sym (passes-run W ps M R (suc R) (omega arith)))
     (any-steps-exactly (plain W) (planOf W ps (suc R)) L M R h)
 
-pub room-exactly : RoomExactly
+pub room-exactly : RoomDecides
 room-exactly W ps L R S l h k u =
     let q = passes-run W ps L R (suc S) (omega arith) in
     subst₂ (RoomCompared R) (sym q) (sym (passes-run W ps l S (suc S) (omega arith)))

@@ -12,7 +12,7 @@ use Rattle.numbers.specs.Lists.{upFrom}
 use Rattle.numbers.proofs.Members.{at-cons, keep-at, keep-mem, upFrom-at, upFrom-mem}
 use Rattle.rules.specs.declared.Entry.{Entry}
 use Rattle.rules.specs.Passes.{System, noEntry, entry, graphs, seven, candidates, prefixed, combinations}
-use Rattle.orders.specs.Stored.{Fits, Combination, counting}
+use Rattle.orders.specs.Stored.{FitsIn, Combination, counting}
 
 pub entry-stays : (es more : List Entry) (i : ℕ) → i < length es → entry (es ++ more) i ≡ entry es i
 entry-stays es more i h = List·getD-append es more noEntry i h
@@ -20,25 +20,25 @@ entry-stays es more i h = List·getD-append es more noEntry i h
 -- ---- entries are added
 -- under another bound, over entries that have the same symbols
 fits-over : (es fs : List Entry) (P Q : ℕ → Type 0) → ((i : ℕ) → P i → Q i × (entry fs i .symbol ≡ entry es i .symbol)) → (c bs : List ℕ)
-    → Fits es P c bs → Fits fs Q c bs
+    → FitsIn es P c bs → FitsIn fs Q c bs
 fits-over es fs P Q h [] [] f = tt
 fits-over es fs P Q h [] (b ∷ bs) f = f
 fits-over es fs P Q h (k ∷ c) [] f = f
 fits-over es fs P Q h (k ∷ c) (b ∷ bs) f = let x = h k (f .0) in (x .0, x .1 ∙ f .1, fits-over es fs P Q h c bs (f .2))
 
-pub fits-map : (es : List Entry) (P Q : ℕ → Type 0) → ((i : ℕ) → P i → Q i) → (c bs : List ℕ) → Fits es P c bs → Fits es Q c bs
+pub fits-map : (es : List Entry) (P Q : ℕ → Type 0) → ((i : ℕ) → P i → Q i) → (c bs : List ℕ) → FitsIn es P c bs → FitsIn es Q c bs
 fits-map es P Q h = fits-over es es P Q (λ i p. (h i p, refl))
 
 pub fits-more : (es more : List Entry) (P : ℕ → Type 0) → ((i : ℕ) → P i → i < length es) → (c bs : List ℕ)
-    → Fits es P c bs → Fits (es ++ more) P c bs
+    → FitsIn es P c bs → FitsIn (es ++ more) P c bs
 fits-more es more P h = fits-over es (es ++ more) P P (λ i p. (p, ap (λ (e : Entry). e .symbol) (entry-stays es more i (h i p))))
 
 pub fits-less : (es more : List Entry) (P : ℕ → Type 0) → ((i : ℕ) → P i → i < length es) → (c bs : List ℕ)
-    → Fits (es ++ more) P c bs → Fits es P c bs
+    → FitsIn (es ++ more) P c bs → FitsIn es P c bs
 fits-less es more P h = fits-over (es ++ more) es P P (λ i p. (p, ap (λ (e : Entry). e .symbol) (sym (entry-stays es more i (h i p)))))
 
 pub graphs-stay : (es more : List Entry) (P : ℕ → Type 0) → ((i : ℕ) → P i → i < length es) → (c bs : List ℕ)
-    → Fits es P c bs → graphs (es ++ more) c ≡ graphs es c
+    → FitsIn es P c bs → graphs (es ++ more) c ≡ graphs es c
 graphs-stay es more P h [] [] f = refl
 graphs-stay es more P h [] (b ∷ bs) f = absurd f
 graphs-stay es more P h (k ∷ c) [] f = absurd f
@@ -46,14 +46,14 @@ graphs-stay es more P h (k ∷ c) (b ∷ bs) f =
     rw (entry-stays es more k (h k (f .0)), graphs-stay es more P h c bs (f .2))
 
 -- ---- the seven slots
-fits-length : (es : List Entry) (P : ℕ → Type 0) (c bs : List ℕ) → Fits es P c bs → length c ≡ length bs
+fits-length : (es : List Entry) (P : ℕ → Type 0) (c bs : List ℕ) → FitsIn es P c bs → length c ≡ length bs
 fits-length es P [] [] f = refl
 fits-length es P [] (b ∷ bs) f = absurd f
 fits-length es P (k ∷ c) [] f = absurd f
 fits-length es P (k ∷ c) (b ∷ bs) f = ap suc (fits-length es P c bs (f .2))
 
 -- the slots that count are the combination
-pub counting-seven : (W : System) (es : List Entry) (P : ℕ → Type 0) (p : ℕ) (c : List ℕ) → Fits es P c (W .rights p)
+pub counting-seven : (W : System) (es : List Entry) (P : ℕ → Type 0) (p : ℕ) (c : List ℕ) → FitsIn es P c (W .rights p)
     → counting W p (seven c) ≡ c
 unfolding seven
 counting-seven W es P p c f = rw (← fits-length es P c (W .rights p) f) (take-append-seam c _)

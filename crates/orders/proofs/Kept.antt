@@ -10,7 +10,7 @@ use lib.ListN.{length, length-append}
 use lib.Seq.{getD-append-seam}
 use Rattle.rules.specs.declared.Entry.{Entry}
 use Rattle.rules.specs.Passes.{System, noEntry, entry, graphs, seven}
-use Rattle.orders.specs.Stored.{Fits, Combination, counting, kidGraphs, Slots, Made}
+use Rattle.orders.specs.Stored.{FitsIn, Combination, counting, kidGraphs, Slots, Made}
 use Rattle.orders.specs.Modes.{needless, fresh, newEntry, Mode, Covered, Later, Settled, Shown, settled, added, Lawful}
 use Rattle.orders.proofs.Combinations.{entry-stays, fits-map, fits-more, graphs-stay, counting-seven}
 use Rattle.orders.proofs.Points.{size, Goes, passed, stored}
@@ -94,7 +94,7 @@ module _ {W : System} (M : Mode W) where
       → Combination (M .entries t) (size M t) c bs
   later-combination s t l c bs f =
       fits-map (M .entries t) (λ i. i < size M s) (λ i. i < size M t) (λ i h. omega (arith, later-longer s t l)) c bs
-      (subst (λ es. Fits es (λ i. i < size M s) c bs) (sym (l .stays))
+      (subst (λ es. FitsIn es (λ i. i < size M s) c bs) (sym (l .stays))
       (fits-more (M .entries s) (l .more) (λ i. i < size M s) (λ i h. h) c bs f))
 
   pub later-settled : (s t : M .Store) → Later M s t → (p : ℕ) (c : List ℕ) → Combination (M .entries s) (size M s) c (W .rights p)

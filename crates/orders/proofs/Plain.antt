@@ -12,7 +12,7 @@ use Rattle.numbers.specs.Lists.{both}
 use Rattle.numbers.proofs.Decides.{Decides, refuted, eq-decides, both-decides}
 use Rattle.rules.specs.declared.Entry.{Entry}
 use Rattle.rules.specs.Passes.{System, noEntry, entry, graphs, known}
-use Rattle.orders.specs.Stored.{Different, Holds}
+use Rattle.orders.specs.Stored.{Different, PairStored}
 use Rattle.orders.specs.Modes.{Judged, round, needless, fresh, newEntry, Mode, Covered, Later, Shown, circle, settled, added, Lawful}
 use Rattle.orders.proofs.Combinations.{entry-stays}
 
@@ -20,13 +20,13 @@ use Rattle.orders.proofs.Combinations.{entry-stays}
 alike : (a g : ℕ) (e : Entry) → Decides (both (eqb (e .symbol) a) (eqb (e .graph) g)) ((e .symbol ≡ a) × (e .graph ≡ g))
 alike a g e = both-decides (eq-decides (e .symbol) a) (eq-decides (e .graph) g)
 
-pub known-holds : (a g : ℕ) (es : List Entry) → known a g es ≡ true → Holds es a g
+pub known-holds : (a g : ℕ) (es : List Entry) → known a g es ≡ true → PairStored es a g
 unfolding known
 known-holds a g [] h = absurd (false≢true h)
 known-holds a g (e ∷ es) h = go (both (eqb (e .symbol) a) (eqb (e .graph) g)) refl h (known-holds a g es)
   where
     go : (b : Bool) → both (eqb (e .symbol) a) (eqb (e .graph) g) ≡ b → (b || known a g es) ≡ true
-        → (known a g es ≡ true → Holds es a g) → Holds (e ∷ es) a g
+        → (known a g es ≡ true → PairStored es a g) → PairStored (e ∷ es) a g
     go true q h ih =
         let r = alike a g e .so q in
         record { number = 0; among = omega arith; symbol = r .0; graph = r .1 }
@@ -34,20 +34,20 @@ known-holds a g (e ∷ es) h = go (both (eqb (e .symbol) a) (eqb (e .graph) g)) 
         let r = ih h in
         record { number = suc (r .number); among = omega (arith, r .among); symbol = r .symbol; graph = r .graph }
 
-pub holds-known : (a g : ℕ) (es : List Entry) → Holds es a g → known a g es ≡ true
+pub holds-known : (a g : ℕ) (es : List Entry) → PairStored es a g → known a g es ≡ true
 unfolding known
 holds-known a g [] h = absurd (omega (arith, h .among))
 holds-known a g (e ∷ es) h =
     go (h .number) (h .among) (h .symbol) (h .graph) (both (eqb (e .symbol) a) (eqb (e .graph) g)) refl (holds-known a g es)
   where
     go : (i : ℕ) → i < suc (length es) → entry (e ∷ es) i .symbol ≡ a → entry (e ∷ es) i .graph ≡ g
-        → (b : Bool) → both (eqb (e .symbol) a) (eqb (e .graph) g) ≡ b → (Holds es a g → known a g es ≡ true) → (b || known a g es) ≡ true
+        → (b : Bool) → both (eqb (e .symbol) a) (eqb (e .graph) g) ≡ b → (PairStored es a g → known a g es ≡ true) → (b || known a g es) ≡ true
     go i l p q true x ih = refl
     go zero l p q false x ih = absurd (refuted (alike a g e) x (p, q))
     go (suc i) l p q false x ih = ih (record { number = i; among = omega arith; symbol = p; graph = q })
 
 -- ---- one entry more
-pub holds-more : (es more : List Entry) (a g : ℕ) → Holds es a g → Holds (es ++ more) a g
+pub holds-more : (es more : List Entry) (a g : ℕ) → PairStored es a g → PairStored (es ++ more) a g
 holds-more es more a g h =
     let e = entry-stays es more (h .number) (h .among) in
     record {
@@ -57,7 +57,7 @@ holds-more es more a g h =
       graph = ap (λ (x : Entry). x .graph) e ∙ h .graph;
     }
 
-holds-new : (es : List Entry) (e : Entry) → Holds (es ++ (e ∷ [])) (e .symbol) (e .graph)
+holds-new : (es : List Entry) (e : Entry) → PairStored (es ++ (e ∷ [])) (e .symbol) (e .graph)
 holds-new es e =
     let q = getD-append-seam es e [] noEntry in
     record {
@@ -67,7 +67,7 @@ holds-new es e =
       graph = ap (λ (x : Entry). x .graph) q;
     }
 
-different-more : (es : List Entry) (e : Entry) → Different es → (Holds es (e .symbol) (e .graph) → ⊥) → Different (es ++ (e ∷ []))
+different-more : (es : List Entry) (e : Entry) → Different es → (PairStored es (e .symbol) (e .graph) → ⊥) → Different (es ++ (e ∷ []))
 different-more es e d h i j l m p q = go (decLt i (length es)) (decLt j (length es))
   where
     new : entry (es ++ (e ∷ [])) (length es) ≡ e
@@ -125,10 +125,10 @@ module _ (W : System) where
     adds = λ p c s t e. fresh-adds (W .circle p (graphs s c)) (known (W .left p) (W .graph p (graphs s c)) s) _ t e;
   }
 
-  pub holds-covered : (es : List Entry) (a g : ℕ) → Holds es a g → Covered plain es a g
+  pub holds-covered : (es : List Entry) (a g : ℕ) → PairStored es a g → Covered plain es a g
   holds-covered es a g h = record { number = h .number; among = (h .among, tt); symbol = h .symbol; over = h .graph }
 
-  pub covered-holds : (es : List Entry) (a g : ℕ) → Covered plain es a g → Holds es a g
+  pub covered-holds : (es : List Entry) (a g : ℕ) → Covered plain es a g → PairStored es a g
   covered-holds es a g h = record { number = h .number; among = h .among .0; symbol = h .symbol; graph = h .over }
 
   pub shown : (p : ℕ) (c : List ℕ) (es : List Entry) → Different es → Shown plain Different p c es (judge p c es)
@@ -155,7 +155,7 @@ module _ (W : System) where
       go true x b y = circle x
       go false x true y = settled (record { calm = x; covered = holds-covered es (W .left p) g (known-holds (W .left p) g es y) })
       go false x false y =
-          let new : Holds es (W .left p) g → ⊥ = λ h. true≢false (sym (holds-known (W .left p) g es h) ∙ y) in
+          let new : PairStored es (W .left p) g → ⊥ = λ h. true≢false (sym (holds-known (W .left p) g es h) ∙ y) in
           added x (λ h. new (covered-holds es (W .left p) g h)) (different-more es e d new) later
           (holds-covered (es ++ (e ∷ [])) (W .left p) g (holds-new es e))
 

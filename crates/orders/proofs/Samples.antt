@@ -8,7 +8,7 @@ use Rattle.rules.specs.declared.Answer.the-variants.{Noncircular, Circular, Out
 use Rattle.rules.specs.Passes.{Outcome, passes}
 use Rattle.rules.specs.Opened.{opened}
 use Rattle.rules.proofs.Cases.{Line, lineOf as line}
-use Rattle.orders.specs.Stored.{In, Root, Saturated}
+use Rattle.orders.specs.Stored.{In, Root, AllMade}
 use Rattle.orders.specs.Answers.{Verdict, OneStored}
 use Rattle.orders.specs.Samples.{small, A, B, productions}
 use Rattle.orders.proofs.Answers.{noncircular-saturated, circular-root, steps-exactly, room-exactly, one-more, more-room}
@@ -79,7 +79,7 @@ room-A =
 third-A : OneStored (runA 10 2) (runA 3 3)
 third-A = subst (λ l. OneStored (runA 10 2) (runA l 3)) closures-room-A (one-more A productions 10 2 3 (omega arith) room-A)
 
-saturated-A : Saturated A (In productions) (runA 10 3 .entries)
+saturated-A : AllMade A (In productions) (runA 10 3 .entries)
 saturated-A = noncircular-saturated A productions 10 3 noncircular-A
 
 -- ---- B

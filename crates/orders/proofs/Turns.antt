@@ -8,7 +8,7 @@ use native.Mathlib.Omega.{arith}
 use lib.Dec.{eqb}
 use borrow.Author.Tests.{eqb-true, eqb-false}
 use Rattle.rules.specs.Passes.{System, entry}
-use Rattle.orders.specs.Stored.{In, Fits, Combination}
+use Rattle.orders.specs.Stored.{In, FitsIn, Combination}
 use Rattle.orders.specs.Modes.{Mode, Candidate, Later, Settled, AllSettled, Turned, Turns, none, then, Lawful}
 use Rattle.orders.specs.Plans.{Plan, end, next, triesPlan, turnsPlan, afterPass, passesPlan}
 use Rattle.numbers.proofs.Members.{at-cons}
@@ -20,7 +20,7 @@ use Rattle.orders.proofs.Kept.{later-none, later-longer, later-then, la
 module _ {W : System} (M : Mode W) where
   -- one candidate for each of the symbols
   abbrev Offer : M .Store → List ℕ → List ℕ → Type 0
-  Offer s = Fits (M .entries s) (Candidate M s)
+  Offer s = FitsIn (M .entries s) (Candidate M s)
 
   offer-fits : (s : M .Store) (c bs : List ℕ) → Offer s c bs → Combination (M .entries s) (size M s) c bs
   offer-fits s c bs f = fits-map (M .entries s) (Candidate M s) (λ i. i < size M s) (λ i h. h .0) c bs f
@@ -28,7 +28,7 @@ module _ {W : System} (M : Mode W) where
   -- where u comes after s, and its candidates of the symbols rs were stored by s, they were candidates of s
   back : (s u : M .Store) → Later M s u → (rs : List ℕ)
       → ((i : ℕ) → Candidate M u i → List·Memᴰ (entry (M .entries u) i .symbol) rs → i < size M s)
-      → (c bs : List ℕ) → ((b : ℕ) → List·Memᴰ b bs → List·Memᴰ b rs) → Offer u c bs → Fits (M .entries u) (Candidate M s) c bs
+      → (c bs : List ℕ) → ((b : ℕ) → List·Memᴰ b bs → List·Memᴰ b rs) → Offer u c bs → FitsIn (M .entries u) (Candidate M s) c bs
   back s u l rs h [] [] k f = tt
   back s u l rs h [] (b ∷ bs) k f = f
   back s u l rs h (x ∷ c) [] k f = f
@@ -43,7 +43,7 @@ module _ {W : System} (M : Mode W) where
   unchanged p s t u h l n c f =
       let m = later-then M s t u (h .later) l in
       let b = back s u m (W .rights p) n c (W .rights p) (λ d k. k) f in
-      let e = subst (λ es. Fits es (Candidate M s) c (W .rights p)) (m .stays) b in
+      let e = subst (λ es. FitsIn es (Candidate M s) c (W .rights p)) (m .stays) b in
       let g : Offer s c (W .rights p) = fits-less (M .entries s) (m .more) (Candidate M s) (λ i k. k .0) c (W .rights p) e in
       later-settled M t u l p c (later-combination M s t (h .later) c (W .rights p) (offer-fits s c (W .rights p) g)) (h .settles c g)
 

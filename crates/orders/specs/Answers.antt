@@ -8,18 +8,18 @@ use Rattle.rules.specs.declared.Answer.{Answer}
 use Rattle.rules.specs.declared.Answer.the-variants.{Noncircular, Circular, Refused, OutOfSteps, OutOfRoom}
 use Rattle.rules.specs.declared.Entry.{Entry}
 use Rattle.rules.specs.Passes.{System, State, Ran, going, stopped, Outcome, entry, noRoot}
-use Rattle.orders.specs.Stored.{Made, Root, Different, Holds, Saturated}
+use Rattle.orders.specs.Stored.{Made, Root, Different, PairStored, AllMade}
 
 -- ---- one outcome, for the limit L and the room R
 -- out of room: one entry more is made of these, and its pair is not stored
 pub record Surplus (W : System) (Part : ℕ → Type 0) (es : List Entry) : Type 0 where
   pub extra : Entry
   pub made : Made W Part es (length es) extra
-  pub new : Holds es (extra .symbol) (extra .graph) → ⊥
+  pub new : PairStored es (extra .symbol) (extra .graph) → ⊥
 
 -- what each answer says
 abbrev pub Says : System → (ℕ → Type 0) → ℕ → ℕ → Outcome → Answer → Type 0
-Says W Part L R o Noncircular = Saturated W Part (o .entries) × (o .report .root ≡ noRoot)
+Says W Part L R o Noncircular = AllMade W Part (o .entries) × (o .report .root ≡ noRoot)
 Says W Part L R o (Circular p) = Root W Part (o .entries) p (o .report .root)
 Says W Part L R o (Refused k) = ⊥
 Says W Part L R o OutOfSteps = (o .report .closures ≡ L) × (o .report .root ≡ noRoot)

@@ -24,13 +24,13 @@ FuelSuffices = (W : System) (ps : List ℕ) (L R fuel : ℕ) → R < fuel → pa
 
 -- ---- two limits, two rooms
 -- out of steps at L comes exactly if with a greater limit the passes make more than L closures; else the outcome is the same
-abbrev pub StepsExactly : Type 0
-StepsExactly = (W : System) (ps : List ℕ) (L M R : ℕ) → L < M → StepsCompared L (passes W L R ps) (passes W M R ps)
+abbrev pub StepsDecide : Type 0
+StepsDecide = (W : System) (ps : List ℕ) (L M R : ℕ) → L < M → StepsCompared L (passes W L R ps) (passes W M R ps)
 
 -- Out of room at R comes exactly if with more room the passes store more than R entries; else the outcome is the same. The limit with more
 -- room may be the same, or no more than the closures made, or any between.
-abbrev pub RoomExactly : Type 0
-RoomExactly =
+abbrev pub RoomDecides : Type 0
+RoomDecides =
     (W : System) (ps : List ℕ) (L R S l : ℕ) → R < S → passes W L R ps .report .closures ≤ l → l ≤ L
     → RoomCompared R (passes W L R ps) (passes W l S ps)
 

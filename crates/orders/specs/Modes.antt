@@ -7,7 +7,7 @@ use Prim.Native.Nat.{ℕ, _<_}
 use lib.ListN.{length}
 use Rattle.rules.specs.declared.Entry.{Entry}
 use Rattle.rules.specs.Passes.{System, entry, graphs, seven}
-use Rattle.orders.specs.Stored.{Fits, Different}
+use Rattle.orders.specs.Stored.{FitsIn, Different}
 
 -- what one closure shows: a circle; a graph that is needless; or a new one, with the store that has it
 pub data Judged (Store : Type 0) : Type 0 where
@@ -60,12 +60,12 @@ module _ {W : System} (M : Mode W) where
 
   -- every combination of live entries is settled, for the productions that take part
   abbrev pub AllSettled : (ℕ → Type 0) → M .Store → Type 0
-  AllSettled Part s = (p : ℕ) → Part p → (c : List ℕ) → Fits (M .entries s) (Candidate s) c (W .rights p) → Settled s p c
+  AllSettled Part s = (p : ℕ) → Part p → (c : List ℕ) → FitsIn (M .entries s) (Candidate s) c (W .rights p) → Settled s p c
 
   -- a turn of p, from s to t, whatever it tried: the combinations of the entries that were live when it began are settled when it ends
   pub record Turned (p : ℕ) (s t : M .Store) : Type 0 where
     pub later : Later s t
-    pub settles : (c : List ℕ) → Fits (M .entries s) (Candidate s) c (W .rights p) → Settled t p c
+    pub settles : (c : List ℕ) → FitsIn (M .entries s) (Candidate s) c (W .rights p) → Settled t p c
 
   -- turns of the productions of a list, in its order
   pub data Turns : List ℕ → M .Store → M .Store → Type 0 where

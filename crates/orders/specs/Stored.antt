@@ -4,7 +4,7 @@ use mathlib.Core.Bool.{true, false}
 use mathlib.Core.List.{List, List·Memᴰ}
 use Prim.Native.Nat.{ℕ, _<_}
 use lib.ListN.{length, take}
-use Rattle.grammar.specs.Fits as general
+use Rattle.grammar.specs.Fits.{Fits}
 use Rattle.rules.specs.declared.Entry.{Entry}
 use Rattle.rules.specs.Passes.{System, entry, graphs, seven}
 
@@ -13,12 +13,12 @@ abbrev pub In : List ℕ → ℕ → Type 0
 In ps p = List·Memᴰ p ps
 
 -- one entry number for each of the symbols bs: it passes P, and its entry has that symbol
-abbrev pub Fits : List Entry → (ℕ → Type 0) → List ℕ → List ℕ → Type 0
-Fits es P = general.Fits P (λ k. entry es k .symbol)
+abbrev pub FitsIn : List Entry → (ℕ → Type 0) → List ℕ → List ℕ → Type 0
+FitsIn es P = Fits P (λ k. entry es k .symbol)
 
 -- a combination of the entries below n
 abbrev pub Combination : List Entry → ℕ → List ℕ → List ℕ → Type 0
-Combination es n = Fits es (λ i. i < n)
+Combination es n = FitsIn es (λ i. i < n)
 
 -- the slots that count: one for each right symbol
 abbrev pub counting : System → ℕ → List ℕ → List ℕ
@@ -53,14 +53,14 @@ Different es =
     → entry es i .graph ≡ entry es j .graph → i ≡ j
 
 -- the symbol a with the graph g is stored
-pub record Holds (es : List Entry) (a g : ℕ) : Type 0 where
+pub record PairStored (es : List Entry) (a g : ℕ) : Type 0 where
   pub number : ℕ
   pub among : number < length es
   pub symbol : entry es number .symbol ≡ a
   pub graph : entry es number .graph ≡ g
 
 -- nothing is left to make: no combination of entries gives a circle, or a pair that is not stored
-abbrev pub Saturated : System → (ℕ → Type 0) → List Entry → Type 0
-Saturated W Part es =
+abbrev pub AllMade : System → (ℕ → Type 0) → List Entry → Type 0
+AllMade W Part es =
     (p : ℕ) → Part p → (c : List ℕ) → Combination es (length es) c (W .rights p)
-    → (W .circle p (graphs es c) ≡ false) × Holds es (W .left p) (W .graph p (graphs es c))
+    → (W .circle p (graphs es c) ≡ false) × PairStored es (W .left p) (W .graph p (graphs es c))

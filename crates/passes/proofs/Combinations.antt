@@ -15,8 +15,8 @@ use Rattle.numbers.proofs.Members.{at-map}
 use Rattle.rules.specs.declared.Entry.{Entry}
 use Rattle.steps.specs.declared.Task.{Task}
 use Rattle.rules.specs.Passes.{entry, candidates, prefixed, combinations}
-use Rattle.passes.specs.Slices.{Slices}
-use Rattle.passes.specs.Follow.{entryAt, entriesTo, under, combosFrom, occursIn, allIn}
+use Rattle.passes.specs.Slices.{Slices, entryAt, entriesTo}
+use Rattle.passes.specs.Follow.{under, combosFrom, occursIn, allIn}
 use Rattle.passes.proofs.Entries.{length-entries, entry-at}
 
 -- ---- lists in parts

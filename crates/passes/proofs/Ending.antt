@@ -14,8 +14,8 @@ use Rattle.rules.specs.declared.Answer.the-variants.{Noncircular}
 use Rattle.rules.specs.declared.Entry.{Entry}
 use Rattle.steps.specs.declared.Run.{Run}
 use Rattle.rules.specs.Passes.{System, State, Ran, going, stopped, andThen, noRoot, pass, Outcome, outcome, after, passesFrom, passes}
-use Rattle.passes.specs.Slices.{Slices, roomOf, Tells}
-use Rattle.passes.specs.Follow.{reportOf, entryAt, entriesTo, stateOf, ranOf, Beyond, Kept, Follows, Roomy}
+use Rattle.passes.specs.Slices.{Slices, roomOf, Tells, entryAt, entriesTo}
+use Rattle.passes.specs.Follow.{reportOf, stateOf, ranOf, Beyond, Kept, Follows, Roomy}
 use Rattle.passes.proofs.Entries.{length-entries, field-taken, kids-taken, written-over}
 use Rattle.passes.proofs.Following.{kept-same, kept-then, going-by, stopped-by}
 use Rattle.passes.proofs.Passing.{through}

@@ -14,10 +14,10 @@ use borrow.Author.Tests.{eq-eqb, ne-eqb}
 use Rattle.numbers.specs.Lists.{both, written}
 use Rattle.rules.specs.declared.Entry.{Entry}
 use Rattle.rules.specs.Passes.{noEntry, entry, known}
-use Rattle.passes.specs.Slices.{Slices, slices, kidsOf}
+use Rattle.passes.specs.Slices.{Slices, slices, allKids, entryAt, entriesTo}
 use Rattle.steps.specs.Slices.{put}
 use Rattle.steps.specs.Step.{seenIn}
-use Rattle.passes.specs.Follow.{entryAt, entriesTo, occursIn, allIn, Beyond}
+use Rattle.passes.specs.Follow.{occursIn, allIn, Beyond}
 
 -- ---- a list of entries that grows at its end
 
@@ -168,10 +168,10 @@ module _ (σ : Slices) (n : ℕ) (e : Entry) where
 
 -- ---- the stored entries, written over the front of the slices
 
-kids-snoc : (es : List Entry) (e : Entry) → kidsOf (es ++ (e ∷ [])) ≡ kidsOf es ++ e .kids
-unfolding kidsOf
+kids-snoc : (es : List Entry) (e : Entry) → allKids (es ++ (e ∷ [])) ≡ allKids es ++ e .kids
+unfolding allKids
 kids-snoc [] e = append-nil (e .kids)
-kids-snoc (x ∷ es) e = ap (λ (l : List ℕ). x .kids ++ l) (kids-snoc es e) ∙ sym (append-assoc (x .kids) (kidsOf es) (e .kids))
+kids-snoc (x ∷ es) e = ap (λ (l : List ℕ). x .kids ++ l) (kids-snoc es e) ∙ sym (append-assoc (x .kids) (allKids es) (e .kids))
 
 module _ (σ : Slices) where
   pub field-taken : (f : Entry → ℕ) (xs : List ℕ) → ((i : ℕ) → f (entryAt σ i) ≡ getD xs i 0)
@@ -183,8 +183,8 @@ module _ (σ : Slices) where
       ∙ ap₂ (λ (a : List ℕ) (b : ℕ). a ++ (b ∷ [])) (field-taken f xs at n (omega arith)) (at n)
       ∙ sym (take-suc xs n 0 l)
 
-  pub kids-taken : (n : ℕ) → 7 * n ≤ length (σ .kids) → kidsOf (entriesTo σ n) ≡ take (7 * n) (σ .kids)
-  unfolding entriesTo entryAt kidsOf
+  pub kids-taken : (n : ℕ) → 7 * n ≤ length (σ .kids) → allKids (entriesTo σ n) ≡ take (7 * n) (σ .kids)
+  unfolding entriesTo entryAt allKids
   kids-taken zero l = refl
   kids-taken (suc n) l =
       let e : 7 * n + 7 ≡ 7 * suc n = omega arith in

@@ -12,7 +12,7 @@ use Rattle.steps.specs.declared.Run.{Run}
 use Rattle.steps.specs.declared.Task.{Task}
 use Rattle.rules.specs.Passes.{System, State, Ran, going, stopped, andThen, try, tries, turn, pass}
 use Rattle.passes.specs.Slices.{Slices}
-use Rattle.passes.specs.Follow.{stateOf, ranBy, ranOf, Beyond, Kept, Follows, Roomy, Ready}
+use Rattle.passes.specs.Follow.{stateOf, ranBy, ranOf, Beyond, Kept, Follows, Roomy, InTurn}
 
 -- ---- what is kept
 
@@ -66,7 +66,7 @@ module _ (room : ℕ) (σ : Slices) (r : Run) (τ : Slices) (q : Run) (a : Kept 
 
 -- a turn still goes on
 pub kept-ready : (k : Task) (σ : Slices) (r : Run) (τ : Slices) (q : Run)
-    → Ready k σ r → Kept (k .room) σ r τ q → q .going ≡ true → Ready k τ q
+    → InTurn k σ r → Kept (k .room) σ r τ q → q .going ≡ true → InTurn k τ q
 kept-ready k σ r τ q h a g =
     record {
       roomy = kept-roomy (k .room) σ r τ q a (h .roomy);

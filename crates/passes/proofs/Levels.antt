@@ -13,8 +13,8 @@ use Rattle.rules.specs.declared.Entry.{Entry}
 use Rattle.steps.specs.declared.Run.{Run}
 use Rattle.steps.specs.declared.Task.{Task}
 use Rattle.rules.specs.Passes.{State, Ran, going, entry, seven, try, tries}
-use Rattle.passes.specs.Slices.{Slices}
-use Rattle.passes.specs.Follow.{entryAt, entriesTo, Follows, Ready, Picked, systemBy, combosFrom}
+use Rattle.passes.specs.Slices.{Slices, entryAt, entriesTo}
+use Rattle.passes.specs.Follow.{Follows, InTurn, Picked, systemBy, combosFrom}
 use Rattle.passes.proofs.Entries.{length-snoc, length-entries, entry-at}
 use Rattle.passes.proofs.Combinations.{between, between-split, between-hit, between-other, between-none, later, combos-leaf, combos-level, combos-next}
 use Rattle.passes.proofs.Following.{follows-nothing, follows-still, follows-then, follows-same, tries-append, tries-one, tries-none}
@@ -55,7 +55,7 @@ partOf k σ₀ n picked i m =
 abbrev pub Passed : Task → List ℕ → Slices → Run → ℕ → List ℕ → ℕ → Slices → Run → Type 0
 Passed k rows σ₀ r₀ n picked e σ r = Follows (k .room) (over k rows (partOf k σ₀ n picked 0 e)) σ₀ r₀ σ r
 
-module _ (k : Task) (rows : List ℕ) (σ₀ : Slices) (r₀ : Run) (ready : Ready k σ₀ r₀) (n : ℕ) (picked : List ℕ) where
+module _ (k : Task) (rows : List ℕ) (σ₀ : Slices) (r₀ : Run) (ready : InTurn k σ₀ r₀) (n : ℕ) (picked : List ℕ) where
   abbrev begun : List Entry
   begun = entriesTo σ₀ (k .first)
 

@@ -25,7 +25,7 @@ use Rattle.steps.specs.Step.{goesOn, closedOver, graphsOf, seenIn, verdict, jud
 use Rattle.steps.proofs.Judged.{counts, stores, is-left, has-room}
 use Rattle.steps.proofs.Fit.{fits-decides}
 use Rattle.steps.proofs.Trying.{tried-run, tried-slices}
-use Rattle.passes.specs.Follow.{stateOf, ranOf, Follows, Ready, Picked, systemBy}
+use Rattle.passes.specs.Follow.{stateOf, ranOf, Follows, InTurn, Picked, systemBy}
 use Rattle.passes.proofs.Entries.{length-entries, seen-known, graphs-same, put-stay, put-entries, set-beyond, sets-beyond}
 use Rattle.passes.proofs.Following.{kept-same, going-by}
 
@@ -70,7 +70,7 @@ graph-by k rows p gs = refl
 pub length-picked : (k : Task) (n : ℕ) (picked : List ℕ) → n ≤ 7 → Picked k n picked → length picked ≡ 7
 length-picked k n picked few slots = ap length (slots .slots) ∙ length-seven (take n picked) (omega (arith, length-take n picked))
 
-module _ (k : Task) (rows : List ℕ) (σ : Slices) (r : Run) (picked : List ℕ) (ready : Ready k σ r) (slots : Picked k (k .count) picked) where
+module _ (k : Task) (rows : List ℕ) (σ : Slices) (r : Run) (picked : List ℕ) (ready : InTurn k σ r) (slots : Picked k (k .count) picked) where
   abbrev combo : List ℕ
   combo = take (k .count) picked
 

@@ -8,8 +8,8 @@ use Rattle.steps.specs.declared.Run.{Run}
 use Rattle.steps.specs.declared.Task.{Task}
 use Rattle.rules.specs.Passes.{System, State, Ran, andThen, entry, graphs, candidates, combinations, try, tries, turn}
 use Rattle.rules.proofs.Stored.{Each, each-combination}
-use Rattle.passes.specs.Slices.{Slices}
-use Rattle.passes.specs.Follow.{entriesTo, stateOf, Follows, systemBy, under, combosFrom}
+use Rattle.passes.specs.Slices.{Slices, entriesTo}
+use Rattle.passes.specs.Follow.{stateOf, Follows, systemBy, under, combosFrom}
 use Rattle.passes.proofs.Following.{then-same, follows-here}
 use Rattle.passes.proofs.Levels.{over}
 

@@ -27,10 +27,10 @@ use Rattle.graph.proofs.Parts.{table-compound}
 use Rattle.steps.specs.declared.Run.{Run}
 use Rattle.steps.specs.declared.Task.{Task}
 use Rattle.rules.specs.Passes.{turn}
-use Rattle.rules.specs.Test.{systemOf}
+use Rattle.rules.specs.Test.{systemOf, systemIn}
 use Rattle.rules.proofs.Stored.{slots-seven}
-use Rattle.passes.specs.Slices.{Slices}
-use Rattle.passes.specs.Follow.{entriesTo, Follows, Roomy, Ready, systemBy, taskOf, ownOf, combosFrom}
+use Rattle.passes.specs.Slices.{Slices, entriesTo}
+use Rattle.passes.specs.Follow.{Follows, Roomy, InTurn, systemBy, taskOf, ownOf, combosFrom}
 use Rattle.passes.proofs.Levels.{over}
 use Rattle.passes.proofs.Systems.{Agrees, turn-follows}
 
@@ -80,7 +80,7 @@ module _ (bs : List ℕ) (good : refusal bs ≡ 0) where
     made : (gs : List ℕ) → length gs ≡ production g p .n → take (8 * suc (length gs)) (placedFrom 8 1 gs (own 8 (edgesOf g p) (replicate 64 0))) ≡ compound 8 (edgesOf g p) gs
     made gs h = table-compound 8 64 (edgesOf g p) gs (edges-within p (length gs) h) (omega (arith, h, few))
 
-    pub agrees : (room first : ℕ) → Agrees (systemOf 8 g) (taskOf bs p room first) (ownOf bs p)
+    pub agrees : (room first : ℕ) → Agrees (systemIn bs) (taskOf bs p room first) (ownOf bs p)
     unfolding taskOf ownOf systemOf systemBy
     agrees room first =
         record {
@@ -93,10 +93,10 @@ module _ (bs : List ℕ) (good : refusal bs ≡ 0) where
 
   -- a turn begins
   module _ (p room : ℕ) (there : p < P bs) (σ : Slices) (r : Run) (k : Task) (made : k ≡ taskOf bs p room (r .stored)) where
-    pub task-ready : Roomy room σ r → r .going ≡ true → Ready k σ r
+    pub task-ready : Roomy room σ r → r .going ≡ true → InTurn k σ r
     unfolding taskOf
     task-ready h on =
-        subst (λ (t : Task). Ready t σ r) (sym made)
+        subst (λ (t : Task). InTurn t σ r) (sym made)
         (record {
           roomy = h;
           first = le-refl (r .stored);
@@ -108,10 +108,10 @@ module _ (bs : List ℕ) (good : refusal bs ≡ 0) where
     -- where all its combinations are followed, the turn is
     pub task-turn : (rows : List ℕ) → rows ≡ ownOf bs p → (n : ℕ) → n ≡ 0 → (picked : List ℕ) (τ : Slices) (q : Run)
         → Follows (k .room) (over k rows (combosFrom k (entriesTo σ (k .first)) n picked)) σ r τ q
-        → Follows room (λ limit. turn (systemOf 8 g) limit room p) σ r τ q
+        → Follows room (λ limit. turn (systemIn bs) limit room p) σ r τ q
     unfolding taskOf
     task-turn rows own n none picked τ q f =
-        turn-follows (systemOf 8 g) (taskOf bs p room (r .stored)) (ownOf bs p) (agrees p there room (r .stored)) σ r picked τ q refl
+        turn-follows (systemIn bs) (taskOf bs p room (r .stored)) (ownOf bs p) (agrees p there room (r .stored)) σ r picked τ q refl
         (subst (λ (l : List ℕ). Follows room (over (taskOf bs p room (r .stored)) l (combosFrom (taskOf bs p room (r .stored)) (entriesTo σ (r .stored)) 0 picked)) σ r τ q) own
         (subst (λ (t : Task). Follows (t .room) (over t rows (combosFrom t (entriesTo σ (t .first)) 0 picked)) σ r τ q) made
         (subst (λ (i : ℕ). Follows (k .room) (over k rows (combosFrom k (entriesTo σ (k .first)) i picked)) σ r τ q) none f)))

@@ -19,8 +19,8 @@ use Rattle.grammar.proofs.Lookups.{productions-many}
 use Rattle.rules.specs.declared.Answer.the-variants.{Refused}
 use Rattle.rules.specs.declared.Report.{Report}
 use Rattle.rules.specs.Passes.{Outcome, outcome, numbered, noRoot, empty, passes}
-use Rattle.rules.specs.Test.{systemOf, test}
-use Rattle.passes.specs.Slices.{Slices, roomOf, kidsOf, Tells}
+use Rattle.rules.specs.Test.{systemIn, test}
+use Rattle.passes.specs.Slices.{Slices, roomOf, allKids, Tells}
 
 -- ---- a refusal is at most 7
 
@@ -83,15 +83,15 @@ module _ (bs : List ℕ) where
   taken h = checked-good (refusal bs) h
 
   pub test-taken : (limit room count : ℕ) (σ : Slices) → checked (refusal bs) ≡ Good → count ≡ P bs → room ≡ roomOf σ
-      → passes (systemOf 8 (grammarOf bs)) limit room (upFrom 0 count) ≡ test 8 bs limit (roomOf σ)
+      → passes (systemIn bs) limit room (upFrom 0 count) ≡ test bs limit (roomOf σ)
   unfolding test
   test-taken limit room count σ h c r = rw (taken h, productions-many bs, c, r)
 
-  pub test-refusal : (limit room : ℕ) → (refusal bs ≡ 0 → ⊥) → test 8 bs limit room ≡ outcome (Refused (refusal bs)) noRoot empty 0
+  pub test-refusal : (limit room : ℕ) → (refusal bs ≡ 0 → ⊥) → test bs limit room ≡ outcome (Refused (refusal bs)) noRoot empty 0
   unfolding test
   test-refusal limit room h = rw (ne-eqb (refusal bs) 0 h, refused-number (refusal bs) (refusal-small bs))
 
-  pub test-refused : (limit room k : ℕ) → checked (refusal bs) ≡ Stopped k → test 8 bs limit room ≡ outcome (Refused k) noRoot empty 0
+  pub test-refused : (limit room k : ℕ) → checked (refusal bs) ≡ Stopped k → test bs limit room ≡ outcome (Refused k) noRoot empty 0
   test-refused limit room k h =
       let w = checked-stopped (refusal bs) k h in
       test-refusal limit room (w .1) ∙ ap (λ (n : ℕ). outcome (Refused n) noRoot empty 0) (w .0)
@@ -99,7 +99,7 @@ module _ (bs : List ℕ) where
 -- nothing is stored
 pub tells-refused : (o : Outcome) (σ : Slices) (k : ℕ) → o ≡ outcome (Refused k) noRoot empty 0
     → Tells o σ (record { answer = Refused k; closures = 0; entries = 0; passes = 0; root = noRoot }) σ
-unfolding kidsOf
+unfolding allKids
 tells-refused o σ k e =
     rw e (record { report = refl; symbols = refl; graphs = refl; productions = refl; kids = refl })
 

@@ -12,27 +12,26 @@ use Rattle.rules.specs.declared.Entry.{Entry}
 use Rattle.rules.specs.declared.Report.{Report}
 use Rattle.rules.specs.Passes.{noEntry, entry, Outcome}
 use Rattle.rules.proofs.Stored.{Sevens}
-use Rattle.passes.specs.Slices.{Slices, kidsOf, Tells}
-use Rattle.passes.specs.Follow.{entryAt, entriesTo}
+use Rattle.passes.specs.Slices.{Slices, allKids, Tells, entryAt, entriesTo}
 use Rattle.passes.proofs.Entries.{length-entries, entry-at}
 
-pub length-kids : (es : List Entry) → Sevens es → length (kidsOf es) ≡ 7 * length es
-unfolding kidsOf
+pub length-kids : (es : List Entry) → Sevens es → length (allKids es) ≡ 7 * length es
+unfolding allKids
 length-kids [] h = refl
-length-kids (e ∷ es) h = omega (arith, length-append (e .kids) (kidsOf es), h .0, length-kids es (h .1))
+length-kids (e ∷ es) h = omega (arith, length-append (e .kids) (allKids es), h .0, length-kids es (h .1))
 
 kids-at : (es : List Entry) (rest : List ℕ) (i : ℕ) → Sevens es → i < length es
-    → take 7 (drop (7 * i) (kidsOf es ++ rest)) ≡ entry es i .kids
-unfolding kidsOf
+    → take 7 (drop (7 * i) (allKids es ++ rest)) ≡ entry es i .kids
+unfolding allKids
 kids-at [] rest i h l = absurd (omega arith)
 kids-at (e ∷ es) rest zero h l =
-    ap (take 7) (append-assoc (e .kids) (kidsOf es) rest) ∙ take-at (e .kids) (kidsOf es ++ rest) 7 (h .0)
+    ap (take 7) (append-assoc (e .kids) (allKids es) rest) ∙ take-at (e .kids) (allKids es ++ rest) 7 (h .0)
 kids-at (e ∷ es) rest (suc i) h l =
     let further : 7 * suc i ≡ 7 + 7 * i = omega arith in
-    ap (λ (j : ℕ). take 7 (drop j (e .kids ++ kidsOf es ++ rest))) further
-    ∙ ap (λ (ks : List ℕ). take 7 (drop (7 + 7 * i) ks)) (append-assoc (e .kids) (kidsOf es) rest)
-    ∙ ap (take 7) (sym (drop-drop (7 * i) 7 (e .kids ++ (kidsOf es ++ rest))))
-    ∙ ap (λ (ks : List ℕ). take 7 (drop (7 * i) ks)) (drop-at (e .kids) (kidsOf es ++ rest) 7 (h .0))
+    ap (λ (j : ℕ). take 7 (drop j (e .kids ++ allKids es ++ rest))) further
+    ∙ ap (λ (ks : List ℕ). take 7 (drop (7 + 7 * i) ks)) (append-assoc (e .kids) (allKids es) rest)
+    ∙ ap (take 7) (sym (drop-drop (7 * i) 7 (e .kids ++ (allKids es ++ rest))))
+    ∙ ap (λ (ks : List ℕ). take 7 (drop (7 * i) ks)) (drop-at (e .kids) (allKids es ++ rest) 7 (h .0))
     ∙ kids-at es rest i (h .1) (omega arith)
 
 module _ (o : Outcome) (σ : Slices) (r : Report) (τ : Slices) (seven : Sevens (o .entries)) (told : Tells o σ r τ) where
@@ -45,7 +44,7 @@ module _ (o : Outcome) (σ : Slices) (r : Report) (τ : Slices) (seven : Sevens 
     field (λ e. e .symbol) (τ .symbols) (σ .symbols) (told .symbols),
     field (λ e. e .graph) (τ .graphs) (σ .graphs) (told .graphs),
     field (λ e. e .production) (τ .productions) (σ .productions) (told .productions),
-    omega (arith, ap length (told .kids), length-append (kidsOf es) (drop (length (kidsOf es)) (σ .kids)), length-kids es seven),
+    omega (arith, ap length (told .kids), length-append (allKids es) (drop (length (allKids es)) (σ .kids)), length-kids es seven),
   )
     where
       field : (f : Entry → ℕ) (xs old : List ℕ) → xs ≡ written (map f es) old → length es ≤ length xs
@@ -69,5 +68,5 @@ module _ (o : Outcome) (σ : Slices) (r : Report) (τ : Slices) (seven : Sevens 
         graph = field (λ e. e .graph) (τ .graphs) (σ .graphs) (told .graphs) i l j;
         production = field (λ e. e .production) (τ .productions) (σ .productions) (told .productions) i l j;
         kids =
-            (ap (λ (ks : List ℕ). take 7 (drop (7 * i) ks)) (told .kids) ∙ kids-at es (drop (length (kidsOf es)) (σ .kids)) i seven l) j;
+            (ap (λ (ks : List ℕ). take 7 (drop (7 * i) ks)) (told .kids) ∙ kids-at es (drop (length (allKids es)) (σ .kids)) i seven l) j;
       }

@@ -8,7 +8,7 @@ use lib.Dec.{eqb}
 use lib.ListN.{length, getD, take, drop, replicate}
 use Rattle.numbers.specs.Lists.{both}
 use Rattle.grammar.specs.Grammar.{production, edgesOf}
-use Rattle.grammar.specs.Table.{grammarOf}
+use Rattle.grammar.specs.Table.{attributes, grammarOf}
 use Rattle.graph.specs.Rows.{own, hasCircle, rootGraph}
 use Rattle.rules.specs.declared.Answer.{Answer}
 use Rattle.rules.specs.declared.Entry.{Entry}
@@ -17,23 +17,9 @@ use Rattle.steps.specs.declared.Run.{Run}
 use Rattle.steps.specs.declared.Task.{Task}
 use Rattle.steps.specs.Step.{closedOver}
 use Rattle.rules.specs.Passes.{System, State, Ran, going, stopped, andThen, seven, candidates, combinations}
-use Rattle.passes.specs.Slices.{Slices}
+use Rattle.passes.specs.Slices.{Slices, entriesTo}
 
 -- ---- the slices and a run, in the words of the rules
-
-unfoldable pub entryAt : Slices → ℕ → Entry
-entryAt σ i =
-    record {
-      symbol = getD (σ .symbols) i 0;
-      graph = getD (σ .graphs) i 0;
-      production = getD (σ .productions) i 0;
-      kids = take 7 (drop (7 * i) (σ .kids));
-    }
-
--- the first n entries
-unfoldable pub entriesTo : Slices → ℕ → List Entry
-entriesTo σ zero = []
-entriesTo σ (suc n) = entriesTo σ n ++ (entryAt σ n ∷ [])
 
 abbrev pub reportOf : Answer → List ℕ → ℕ → Run → ℕ → Report
 reportOf a root limit r begun = record { answer = a; closures = limit - r .left; entries = r .stored; passes = begun; root = root }
@@ -90,7 +76,7 @@ systemBy k rows =
     record {
       left = λ p. k .symbol;
       rights = λ p. take (k .count) (k .rights);
-      graph = λ p gs. rootGraph 8 (closedOver rows gs);
+      graph = λ p gs. rootGraph attributes (closedOver rows gs);
       circle = λ p gs. hasCircle (closedOver rows gs);
     }
 
@@ -107,7 +93,7 @@ taskOf bs p room first =
     }
 
 unfoldable pub ownOf : List ℕ → ℕ → List ℕ
-ownOf bs p = own 8 (edgesOf (grammarOf bs) p) (replicate 64 0)
+ownOf bs p = own attributes (edgesOf (grammarOf bs) p) (replicate 64 0)
 
 -- each combination behind the numbers that are chosen already
 unfoldable pub under : List ℕ → List (List ℕ) → List (List ℕ)
@@ -128,7 +114,7 @@ allIn symbols rights first zero = true
 allIn symbols rights first (suc n) = both (occursIn symbols (getD rights n 0) first) (allIn symbols rights first n)
 
 -- a turn goes on: the room holds what is stored, and what was stored when the turn began still is
-pub record Ready (k : Task) (σ : Slices) (r : Run) : Type 0 where
+pub record InTurn (k : Task) (σ : Slices) (r : Run) : Type 0 where
   pub roomy : Roomy (k .room) σ r
   pub first : k .first ≤ r .stored
   pub few : k .count ≤ 7

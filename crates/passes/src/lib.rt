@@ -7,23 +7,10 @@ ghost use Rattle.numbers.specs.Lists.{upFrom};
 ghost use Rattle.grammar.specs.Table.{P, grammarOf};
 ghost use Rattle.grammar.specs.Refusal.{refusal};
 ghost use Rattle.rules.specs.Passes as stated;
-ghost use Rattle.rules.specs.Test.{systemOf};
+ghost use Rattle.rules.specs.Test.{systemIn};
 ghost use Rattle.steps.specs.Step.{goesOn};
-ghost use Rattle.passes.specs.Slices.{slices, roomOf, Tells, Tested};
-ghost use Rattle.passes.specs.Follow.{
-  reportOf,
-  entriesTo,
-  Follows,
-  Roomy,
-  Ready,
-  Picked,
-  systemBy,
-  taskOf,
-  ownOf,
-  combosFrom,
-  occursIn,
-  allIn,
-};
+ghost use Rattle.passes.specs.Slices.{lent, atEntry, atExit, roomOf, Tells, Tested, entriesTo};
+ghost use Rattle.passes.specs.Follow.{reportOf, Follows, Roomy, InTurn, Picked, systemBy, taskOf, ownOf, combosFrom, occursIn, allIn};
 use grammar::Checked;
 use rules::Answer;
 use rules::Report;
@@ -51,12 +38,12 @@ fn level(
     picked: [u16; 7],
     run: Run,
 ) -> Run
-    requires { ⌜ (left ≤ task .count) × Ready task (slices (now symbols) (now graphs) (now productions) (now kids)) run × Picked task (task .count - left) picked ⌝ }
+    requires { ⌜ (left ≤ task .count) × InTurn task (lent symbols graphs productions kids) run × Picked task (task .count - left) picked ⌝ }
     ensures { λ r. ⌜ Follows (task .room)
         (λ limit. stated.tries (systemBy task (now (own .entry))) limit (task .room) (task .number)
-        (combosFrom task (entriesTo (slices (now (symbols .entry)) (now (graphs .entry)) (now (productions .entry)) (now (kids .entry))) (task .first)) (task .count - left) picked))
-        (slices (now (symbols .entry)) (now (graphs .entry)) (now (productions .entry)) (now (kids .entry))) run
-        (slices (now (symbols .exit)) (now (graphs .exit)) (now (productions .exit)) (now (kids .exit))) r ⌝ }
+        (combosFrom task (entriesTo (atEntry symbols graphs productions kids) (task .first)) (task .count - left) picked))
+        (atEntry symbols graphs productions kids) run
+        (atExit symbols graphs productions kids) r ⌝ }
 {
     if left == 0 {
         return steps::try_one(symbols, graphs, productions, kids, own, task, picked, run);
@@ -164,10 +151,10 @@ fn turn(
     room: usize,
     run: Run,
 ) -> Run
-    requires { ⌜ (refusal (now table) ≡ 0) × (number < P (now table)) × Roomy room (slices (now symbols) (now graphs) (now productions) (now kids)) run × (run .going ≡ true) ⌝ }
-    ensures { λ r. ⌜ Follows room (λ limit. stated.turn (systemOf 8 (grammarOf (now (table .entry)))) limit room number)
-        (slices (now (symbols .entry)) (now (graphs .entry)) (now (productions .entry)) (now (kids .entry))) run
-        (slices (now (symbols .exit)) (now (graphs .exit)) (now (productions .exit)) (now (kids .exit))) r ⌝ }
+    requires { ⌜ (refusal (now table) ≡ 0) × (number < P (now table)) × Roomy room (lent symbols graphs productions kids) run × (run .going ≡ true) ⌝ }
+    ensures { λ r. ⌜ Follows room (λ limit. stated.turn (systemIn (now (table .entry))) limit room number)
+        (atEntry symbols graphs productions kids) run
+        (atExit symbols graphs productions kids) r ⌝ }
 {
     let task = task_of(table, number, room, run.stored);
     if !all_occur(symbols, task) {
@@ -198,10 +185,10 @@ fn pass(
     room: usize,
     run: Run,
 ) -> Run
-    requires { ⌜ (refusal (now table) ≡ 0) × (count ≡ P (now table)) × Roomy room (slices (now symbols) (now graphs) (now productions) (now kids)) run ⌝ }
-    ensures { λ r. ⌜ Follows room (λ limit. stated.pass (systemOf 8 (grammarOf (now (table .entry)))) limit room (upFrom 0 count))
-        (slices (now (symbols .entry)) (now (graphs .entry)) (now (productions .entry)) (now (kids .entry))) run
-        (slices (now (symbols .exit)) (now (graphs .exit)) (now (productions .exit)) (now (kids .exit))) r ⌝ }
+    requires { ⌜ (refusal (now table) ≡ 0) × (count ≡ P (now table)) × Roomy room (lent symbols graphs productions kids) run ⌝ }
+    ensures { λ r. ⌜ Follows room (λ limit. stated.pass (systemIn (now (table .entry))) limit room (upFrom 0 count))
+        (atEntry symbols graphs productions kids) run
+        (atExit symbols graphs productions kids) r ⌝ }
 {
     let mut now = run;
     let mut number = 0;
@@ -254,10 +241,10 @@ fn passes(
     room: usize,
     limit: u32,
 ) -> Report
-    requires { ⌜ (refusal (now table) ≡ 0) × (count ≡ P (now table)) × (room ≡ roomOf (slices (now symbols) (now graphs) (now productions) (now kids))) ⌝ }
-    ensures { λ r. ⌜ Tells (stated.passes (systemOf 8 (grammarOf (now (table .entry)))) limit room (upFrom 0 count))
-        (slices (now (symbols .entry)) (now (graphs .entry)) (now (productions .entry)) (now (kids .entry))) r
-        (slices (now (symbols .exit)) (now (graphs .exit)) (now (productions .exit)) (now (kids .exit))) ⌝ }
+    requires { ⌜ (refusal (now table) ≡ 0) × (count ≡ P (now table)) × (room ≡ roomOf (lent symbols graphs productions kids)) ⌝ }
+    ensures { λ r. ⌜ Tells (stated.passes (systemIn (now (table .entry))) limit room (upFrom 0 count))
+        (atEntry symbols graphs productions kids) r
+        (atExit symbols graphs productions kids) ⌝ }
 {
     let mut now = begins(limit);
     let mut begun: u16 = 0;
@@ -286,8 +273,8 @@ pub fn test(
     kids: &mut [u16],
 ) -> Report
     ensures { λ r. ⌜ Tested (now (table .entry)) limit
-        (slices (now (symbols .entry)) (now (graphs .entry)) (now (productions .entry)) (now (kids .entry))) r
-        (slices (now (symbols .exit)) (now (graphs .exit)) (now (productions .exit)) (now (kids .exit))) ⌝ }
+        (atEntry symbols graphs productions kids) r
+        (atExit symbols graphs productions kids) ⌝ }
 {
     let checked = checks::check(table);
     if let Checked::Refused(number) = checked {

@@ -43,19 +43,19 @@ module _ (bs : List ℕ) (long : 58904 < length bs) where
   refused-by = rw (le-leb 24 (length bs) (omega arith)) (by-counts (countsOk bs) (offsetsOk bs) _ no-offsets)
 
   -- 2 or 3
-  refused : (limit room : ℕ) → test 8 bs limit room ≡ outcome (Refused (cond (countsOk bs) 3 2)) noRoot empty 0
+  refused : (limit room : ℕ) → test bs limit room ≡ outcome (Refused (cond (countsOk bs) 3 2)) noRoot empty 0
   refused limit room =
       test-refusal bs limit room (λ e. two-or-three (countsOk bs) (sym refused-by ∙ e))
       ∙ ap (λ (n : ℕ). outcome (Refused n) noRoot empty 0) refused-by
 
 -- What is printed of the first 58,905 bytes is what is printed of the whole input.
 pub whole-input : (bs : List ℕ) (limit room : ℕ)
-    → printed (kidsIn (take 58905 bs)) (test 8 (take 58905 bs) limit room) ≡ printed (kidsIn bs) (test 8 bs limit room)
+    → printed (kidsIn (take 58905 bs)) (test (take 58905 bs) limit room) ≡ printed (kidsIn bs) (test bs limit room)
 unfolding printed rest
 whole-input bs limit room = go (decLe (length bs) 58905)
   where
     go : Dec (length bs ≤ 58905)
-        → printed (kidsIn (take 58905 bs)) (test 8 (take 58905 bs) limit room) ≡ printed (kidsIn bs) (test 8 bs limit room)
+        → printed (kidsIn (take 58905 bs)) (test (take 58905 bs) limit room) ≡ printed (kidsIn bs) (test bs limit room)
     go (yes l) = rw (take-all 58905 bs l)
     go (no f) =
         let first : 58904 < length (take 58905 bs) = rw (length-take-le 58905 bs (omega arith)) (omega arith) in

@@ -14,8 +14,7 @@ use Rattle.rules.specs.declared.Entry.{Entry}
 use Rattle.texts.specs.Lines.{entryLines}
 use Rattle.lines.specs.Buffer.{Written}
 use Rattle.lines.proofs.Putting.{fitting, fitted, lines}
-use Rattle.passes.specs.Slices.{Slices, roomOf}
-use Rattle.passes.specs.Follow.{entryAt, entriesTo}
+use Rattle.passes.specs.Slices.{Slices, roomOf, entryAt, entriesTo}
 use Rattle.passes.proofs.Entries.{length-entries}
 use Rattle.print.specs.Texts.{entryText, enough, Placed, Printed}
 

@@ -12,17 +12,16 @@ use Rattle.rules.specs.Passes.{Outcome}
 use Rattle.rules.specs.Test.{test}
 use Rattle.rules.proofs.Stored.{Counted, counted-test}
 use Rattle.texts.specs.Lines.{printed}
-use Rattle.passes.specs.Slices.{Slices, roomOf, Tells, Tested}
-use Rattle.passes.specs.Follow.{entriesTo}
+use Rattle.passes.specs.Slices.{Slices, roomOf, Tells, Tested, entriesTo, readOut}
 use Rattle.passes.proofs.Told.{entries-told}
-use Rattle.print.specs.Texts.{kidsIn, reported, enough, Printed, TestPrinted}
+use Rattle.print.specs.Texts.{kidsIn, enough, Printed, TestPrinted}
 
 module _ (o : Outcome) (σ : Slices) (r : Report) (τ : Slices) (good : Counted (roomOf σ) o) (t : Tells o σ r τ) where
   count : r .entries ≡ length (o .entries)
   count = ap (λ (x : Report). x .entries) (t .report) ∙ good .count
 
-  reported-is : reported r τ ≡ o
-  reported-is =
+  read-is : readOut r τ ≡ o
+  read-is =
       let same : entriesTo τ (r .entries) ≡ o .entries = rw count (entries-told o σ r τ (good .sound .slots) t) in
       λ j. record { report = t .report j; entries = same j }
 
@@ -36,21 +35,21 @@ same-room σ τ a b c d = rw (a, b, c, d)
 
 -- what is printed of a test
 pub test-printed : (bs : List ℕ) (limit : ℕ) (σ : Slices) (report : Report) (τ : Slices) {old new : List ℕ} {r : ℕ} → roomOf τ ≡ roomOf σ
-    → Tested bs limit σ report τ → Printed (printed (kidsIn bs) (reported report τ)) (enough report τ old) old new r
+    → Tested bs limit σ report τ → Printed (printed (kidsIn bs) (readOut report τ)) (enough report τ old) old new r
     → TestPrinted bs limit σ τ old new r
 test-printed bs limit σ report τ {old} same t p =
-    let o = test 8 bs limit (roomOf σ) in
-    let good = counted-test 8 bs limit (roomOf σ) in
+    let o = test bs limit (roomOf σ) in
+    let good = counted-test bs limit (roomOf σ) in
     record {
       stored = record { report = refl; symbols = t .symbols; graphs = t .graphs; productions = t .productions; kids = t .kids };
-      text = rw (reported-is o σ report τ good t, enough-is o σ report τ good t old same) at p;
+      text = rw (read-is o σ report τ good t, enough-is o σ report τ good t old same) at p;
     }
 
 -- where the buffer has 128 bytes for each entry of the room and for two more lines, the text is always there
 pub always-printed : (bs : List ℕ) (limit : ℕ) (σ τ : Slices) (old new : List ℕ) (r : ℕ) → 128 * (roomOf σ + 2) ≤ length old
     → TestPrinted bs limit σ τ old new r
-    → (new ≡ written (printed (kidsIn bs) (test 8 bs limit (roomOf σ))) old) × (r ≡ length (printed (kidsIn bs) (test 8 bs limit (roomOf σ))))
+    → (new ≡ written (printed (kidsIn bs) (test bs limit (roomOf σ))) old) × (r ≡ length (printed (kidsIn bs) (test bs limit (roomOf σ))))
 always-printed bs limit σ τ old new r h p =
-    let few = counted-test 8 bs limit (roomOf σ) .sound .fits in
-    let yes = le-leb (128 * (length (test 8 bs limit (roomOf σ) .entries) + 2)) (length old) (omega arith) in
+    let few = counted-test bs limit (roomOf σ) .sound .fits in
+    let yes = le-leb (128 * (length (test bs limit (roomOf σ) .entries) + 2)) (length old) (omega arith) in
     (rw yes at (p .text .buffer), rw yes at (p .text .count))

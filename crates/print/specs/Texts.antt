@@ -14,13 +14,8 @@ use Rattle.texts.specs.Lines.{entryLine, printed}
 pub use Rattle.texts.specs.Lines.{kidsIn}
 use Rattle.lines.specs.Buffer.{Written}
 use Rattle.passes.specs.Slices.{Slices, roomOf, Tells}
-use Rattle.passes.specs.Follow.{entriesTo}
 
 -- ---- what is promised
-
--- the outcome that a report and the entries at the front of the slices tell
-abbrev pub reported : Report → Slices → Outcome
-reported report σ = record { report = report; entries = entriesTo σ (report .entries) }
 
 -- the slices have room for the entries, and the buffer 128 bytes for the line of each and for two more
 abbrev pub enough : Report → Slices → List ℕ → Bool
@@ -33,10 +28,10 @@ pub record Printed (text : List ℕ) (ok : Bool) (old new : List ℕ) (r : ℕ) 
 
 -- the test of a table: what it stores is left in the slices, and what it comes to is printed
 pub record TestPrinted (bs : List ℕ) (limit : ℕ) (σ τ : Slices) (old new : List ℕ) (r : ℕ) : Type 0 where
-  pub stored : Tells (test 8 bs limit (roomOf σ)) σ (test 8 bs limit (roomOf σ) .report) τ
+  pub stored : Tells (test bs limit (roomOf σ)) σ (test bs limit (roomOf σ) .report) τ
   pub text :
-      Printed (printed (kidsIn bs) (test 8 bs limit (roomOf σ)))
-      (leb (128 * (length (test 8 bs limit (roomOf σ) .entries) + 2)) (length old)) old new r
+      Printed (printed (kidsIn bs) (test bs limit (roomOf σ)))
+      (leb (128 * (length (test bs limit (roomOf σ) .entries) + 2)) (length old)) old new r
 
 -- ---- on the way
 

@@ -5,9 +5,8 @@ ghost use lib.Dec.{leb};
 ghost use lib.ListN.{length, take, drop};
 ghost use Rattle.numbers.specs.Lists.{both};
 ghost use Rattle.texts.specs.Lines.{firstLine, rootLine, entryLines, rest, printed};
-ghost use Rattle.passes.specs.Slices.{slices, roomOf};
-ghost use Rattle.passes.specs.Follow.{entryAt, entriesTo};
-ghost use Rattle.print.specs.Texts.{kidsIn, entryText, Placed, enough, Printed, TestPrinted, reported};
+ghost use Rattle.passes.specs.Slices.{lent, atEntry, atExit, roomOf, entryAt, entriesTo, readOut};
+ghost use Rattle.print.specs.Texts.{kidsIn, entryText, Placed, enough, Printed, TestPrinted};
 use rules::Answer;
 use rules::Report;
 
@@ -47,10 +46,10 @@ fn entry_line(
     productions: &[u16],
     kids: &[u16],
 ) -> usize
-    requires { ⌜ i < roomOf (slices (now symbols) (now graphs) (now productions) (now kids)) ⌝ }
+    requires { ⌜ i < roomOf (lent symbols graphs productions kids) ⌝ }
     ensures { λ r. ⌜ Placed
         (entryText (kidsIn (now (table .entry))) i
-        (entryAt (slices (now (symbols .entry)) (now (graphs .entry)) (now (productions .entry)) (now (kids .entry))) i))
+        (entryAt (atEntry symbols graphs productions kids) i))
         128 at (now (buf .entry)) (now (buf .exit)) r ⌝ }
 {
     let p = productions[i];
@@ -77,11 +76,11 @@ fn entry_lines(
     productions: &[u16],
     kids: &[u16],
 ) -> usize
-    requires { ⌜ (count ≤ roomOf (slices (now symbols) (now graphs) (now productions) (now kids)))
+    requires { ⌜ (count ≤ roomOf (lent symbols graphs productions kids))
         × (at + 128 * count ≤ length (now buf)) ⌝ }
     ensures { λ r. ⌜ Placed
         (entryLines (kidsIn (now (table .entry))) 0
-        (entriesTo (slices (now (symbols .entry)) (now (graphs .entry)) (now (productions .entry)) (now (kids .entry))) count))
+        (entriesTo (atEntry symbols graphs productions kids) count))
         (128 * count) at (now (buf .entry)) (now (buf .exit)) r ⌝ }
 {
     let mut end = at;
@@ -127,12 +126,12 @@ fn rest_lines(
     productions: &[u16],
     kids: &[u16],
 ) -> usize
-    requires { ⌜ (report .entries ≤ roomOf (slices (now symbols) (now graphs) (now productions) (now kids)))
+    requires { ⌜ (report .entries ≤ roomOf (lent symbols graphs productions kids))
         × (at + 128 * (report .entries + 1) ≤ length (now buf)) ⌝ }
     ensures { λ r. ⌜ Placed
         (rest (report .answer)
         (entryLines (kidsIn (now (table .entry))) 0
-        (entriesTo (slices (now (symbols .entry)) (now (graphs .entry)) (now (productions .entry)) (now (kids .entry))) (report .entries)))
+        (entriesTo (atEntry symbols graphs productions kids) (report .entries)))
         (λ p. rootLine p (take (kidsIn (now (table .entry)) p) (report .root))))
         (128 * (report .entries + 1)) at (now (buf .entry)) (now (buf .exit)) r ⌝ }
 {
@@ -162,8 +161,8 @@ pub fn report_text(
 ) -> usize
     ensures { λ r. ⌜ Printed
         (printed (kidsIn (now (table .entry)))
-        (reported report (slices (now (symbols .entry)) (now (graphs .entry)) (now (productions .entry)) (now (kids .entry)))))
-        (enough report (slices (now (symbols .entry)) (now (graphs .entry)) (now (productions .entry)) (now (kids .entry))) (now (buf .entry)))
+        (readOut report (atEntry symbols graphs productions kids)))
+        (enough report (atEntry symbols graphs productions kids) (now (buf .entry)))
         (now (buf .entry)) (now (buf .exit)) r ⌝ }
 {
     let entries = numbers::wide(report.entries);
@@ -193,8 +192,8 @@ pub fn test_text(
     kids: &mut [u16],
 ) -> usize
     ensures { λ r. ⌜ TestPrinted (now (table .entry)) limit
-        (slices (now (symbols .entry)) (now (graphs .entry)) (now (productions .entry)) (now (kids .entry)))
-        (slices (now (symbols .exit)) (now (graphs .exit)) (now (productions .exit)) (now (kids .exit)))
+        (atEntry symbols graphs productions kids)
+        (atExit symbols graphs productions kids)
         (now (buf .entry)) (now (buf .exit)) r ⌝ }
 {
     let report = passes::test(table, limit, symbols, graphs, productions, kids);

@@ -18,10 +18,10 @@ use Rattle.rows.proofs.Writing.{length-written}
 
 module _ (bs : List ℕ) (limit : ℕ) (before : List Entry) (r : Report) (after : List Entry) (tested : Tested bs limit before r after) where
   abbrev stored : List Entry
-  stored = rules.test 8 bs limit (roomOf before) .entries
+  stored = rules.test bs limit (roomOf before) .entries
 
   fits : length stored ≤ roomOf before
-  fits = counted-test 8 bs limit (roomOf before) .sound .fits
+  fits = counted-test bs limit (roomOf before) .sound .fits
 
   pub same-length : length after ≡ length before
   same-length = ap length (tested .entries) ∙ length-written stored before (omega (arith, fits))

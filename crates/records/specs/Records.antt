@@ -17,8 +17,8 @@ roomOf before = min 4096 (length before)
 -- what the test of a table promises: the report is the outcome's; the stored entries stand at the front of the row, whose other records are
 -- as before
 pub record Tested (bs : List ℕ) (limit : ℕ) (before : List Entry) (r : Report) (after : List Entry) : Type 0 where
-  pub report : r ≡ test 8 bs limit (roomOf before) .report
-  pub entries : after ≡ written (test 8 bs limit (roomOf before) .entries) before
+  pub report : r ≡ test bs limit (roomOf before) .report
+  pub entries : after ≡ written (test bs limit (roomOf before) .entries) before
 
 -- ---- an outcome by value
 

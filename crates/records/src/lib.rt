@@ -4,8 +4,7 @@ ghost use Prim.Native.Nat.{_+_, _*_, _≤_, _<_, min};
 ghost use lib.ListN.{length, take, drop};
 ghost use Rattle.numbers.specs.Lists.{written};
 ghost use Rattle.rules.specs.Test as stated;
-ghost use Rattle.passes.specs.Slices.{slices, roomOf};
-ghost use Rattle.passes.specs.Follow.{entryAt, entriesTo};
+ghost use Rattle.passes.specs.Slices.{atEntry, roomOf, entryAt, entriesTo};
 ghost use Rattle.records.specs.Records.{zeros, ranOf, Tested};
 use rules::Entry;
 use rules::Report;
@@ -25,7 +24,7 @@ fn kids_of(kids: &[u16], i: usize) -> [u16; 7]
 // The entry at i of the parallel slices.
 fn entry_of(symbols: &[u16], graphs: &[u64], productions: &[u16], kids: &[u16], i: usize) -> Entry
     requires { ⌜ (i < length (now symbols)) × (i < length (now graphs)) × (i < length (now productions)) × (7 * i + 7 ≤ length (now kids)) ⌝ }
-    ensures { λ r. ⌜ r ≡ entryAt (slices (now (symbols .entry)) (now (graphs .entry)) (now (productions .entry)) (now (kids .entry))) i ⌝ }
+    ensures { λ r. ⌜ r ≡ entryAt (atEntry symbols graphs productions kids) i ⌝ }
 {
     Entry {
         symbol: symbols[i],
@@ -56,7 +55,7 @@ fn rows_of(
     n: usize,
 ) -> [Entry; 4096]
     requires { ⌜ (n ≤ 4096) × (n ≤ length (now symbols)) × (n ≤ length (now graphs)) × (n ≤ length (now productions)) × (7 * n ≤ length (now kids)) ⌝ }
-    ensures { λ r. ⌜ r ≡ written (entriesTo (slices (now (symbols .entry)) (now (graphs .entry)) (now (productions .entry)) (now (kids .entry))) n) zeros ⌝ }
+    ensures { λ r. ⌜ r ≡ written (entriesTo (atEntry symbols graphs productions kids) n) zeros ⌝ }
 {
     let mut rows = no_entries();
     let mut i: usize = 0;
@@ -84,8 +83,8 @@ fn gather(
     productions: &mut [u16],
     kids: &mut [u16],
 ) -> Ran
-    ensures { λ r. ⌜ r ≡ ranOf (stated.test 8 (now (table .entry)) limit
-        (roomOf (slices (now (symbols .entry)) (now (graphs .entry)) (now (productions .entry)) (now (kids .entry))))) ⌝ }
+    ensures { λ r. ⌜ r ≡ ranOf (stated.test (now (table .entry)) limit
+        (roomOf (atEntry symbols graphs productions kids))) ⌝ }
 {
     let report = passes::test(table, limit, symbols, graphs, productions, kids);
     let stored = numbers::wide(report.entries);
@@ -99,7 +98,7 @@ fn gather(
 
 // The test over slices of its own, with room for `room` entries and for 4,096 at most.
 fn run(table: &[u8], limit: u32, room: usize) -> Ran
-    ensures { λ r. ⌜ r ≡ ranOf (stated.test 8 (now (table .entry)) limit (min 4096 room)) ⌝ }
+    ensures { λ r. ⌜ r ≡ ranOf (stated.test (now (table .entry)) limit (min 4096 room)) ⌝ }
 {
     let mut symbols = [0u16; 4096];
     let mut graphs = [0u64; 4096];

@@ -24,7 +24,7 @@ lineOf o =
     (r .answer, r .closures, r .entries, r .passes)
 
 abbrev line : List ℕ → ℕ → ℕ → Line
-line bs limit room = lineOf (test 8 bs limit room)
+line bs limit room = lineOf (test bs limit room)
 
 pub K :
     _≡_ {A = List Line}
@@ -68,14 +68,14 @@ made s g p kids = record { symbol = s; graph = g; production = p; kids = kids }
 
 -- the entries of A
 pub entries-A :
-    test 8 tableA 10 3 .entries
+    test tableA 10 3 .entries
     ≡ made 1 4 1 (replicate 7 0) ∷ made 1 2048 2 (replicate 7 0) ∷ made 0 0 0 (replicate 7 0) ∷ []
 unfolding opened tableA
 entries-A = refl
 
 -- all that comes back for B, as `circ` runs it
 pub whole-B :
-    test 8 tableB 1000000 1024
+    test tableB 1000000 1024
     ≡ record {
       report = record { answer = Circular 0; closures = 3; entries = 2; passes = 2; root = replicate 7 0 };
       entries = made 1 2052 1 (replicate 7 0) ∷ made 1 2048 2 (replicate 7 0) ∷ [];
@@ -90,7 +90,7 @@ waits = refl
 
 -- the last right symbol changes fastest, in ascending order
 pub fastest :
-    test 8 tableQ 100 10 .entries
+    test tableQ 100 10 .entries
     ≡ made 1 0 0 (replicate 7 0)
     ∷ made 1 2 1 (replicate 7 0)
     ∷ made 0 0 2 (0 ∷ 0 ∷ replicate 5 0)

@@ -15,7 +15,7 @@ use Rattle.grammar.proofs.Lookups.{production-there, production-none, slots-are
 use Rattle.rules.specs.declared.Answer.the-variants.{Noncircular}
 use Rattle.rules.specs.declared.Entry.{Entry}
 use Rattle.rules.specs.Passes.{System, State, Ran, going, stopped, andThen, seven, noRoot, numbered, candidates, prefixed, combinations, stopIf, goOnIf, try, tries, turn, pass, Outcome, outcome, after, empty, passesFrom, passes}
-use Rattle.rules.specs.Test.{systemOf, byNumber, test}
+use Rattle.rules.specs.Test.{systemOf, systemIn, byNumber, test}
 use Rattle.rules.proofs.Steps.{byTests}
 
 -- ---- every combination has a number for each right symbol
@@ -145,18 +145,18 @@ slots-seven bs p = go (decLt p (P bs))
     go (yes l) = rw (production-there bs p l, slots-are)
     go (no f) = rw (production-none bs p (omega arith), length-replicate)
 
-module _ (w : ℕ) (bs : List ℕ) where
-  few-rights : (p : ℕ) → length (systemOf w (grammarOf bs) .rights p) ≤ 7
+module _ (bs : List ℕ) where
+  few-rights : (p : ℕ) → length (systemIn bs .rights p) ≤ 7
   unfolding systemOf
   few-rights p = let s = slots-seven bs p in rw length-take (omega arith)
 
-  pub counted-test : (limit room : ℕ) → Counted room (test w bs limit room)
+  pub counted-test : (limit room : ℕ) → Counted room (test bs limit room)
   unfolding test passes
   counted-test limit room = go (eqb (refusal bs) 0)
     where
       nothing : Sound room []
       nothing = record { fits = zero-le; slots = tt }
 
-      go : (b : Bool) → Counted room (cond b (passes (systemOf w (grammarOf bs)) limit room (byNumber (grammarOf bs))) (outcome (numbered (refusal bs)) noRoot empty 0))
-      go true = counted-passes (systemOf w (grammarOf bs)) limit room few-rights (suc room) (byNumber (grammarOf bs)) 0 empty nothing
+      go : (b : Bool) → Counted room (cond b (passes (systemIn bs) limit room (byNumber (grammarOf bs))) (outcome (numbered (refusal bs)) noRoot empty 0))
+      go true = counted-passes (systemIn bs) limit room few-rights (suc room) (byNumber (grammarOf bs)) 0 empty nothing
       go false = record { count = refl; sound = nothing }

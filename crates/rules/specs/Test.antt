@@ -6,7 +6,7 @@ use lib.Dec.{eqb}
 use lib.ListN.{length}
 use Rattle.numbers.specs.Lists.{upFrom}
 use Rattle.grammar.specs.Grammar.{Grammar, production, rights, edgesOf}
-use Rattle.grammar.specs.Table.{grammarOf}
+use Rattle.grammar.specs.Table.{widthOf, grammarOf}
 use Rattle.grammar.specs.Refusal.{refusal}
 use Rattle.graph.specs.Rows.{compound, closure, hasCircle, rootGraph}
 use Rattle.rules.specs.Passes.{System, Outcome, outcome, numbered, noRoot, empty, passes}
@@ -24,11 +24,15 @@ systemOf w g =
       circle = λ p gs. hasCircle (closed w g p gs);
     }
 
+-- what the passes ask of the grammar of a table
+abbrev pub systemIn : List ℕ → System
+systemIn bs = systemOf (widthOf bs) (grammarOf bs)
+
 -- a pass takes the productions by number
 abbrev pub byNumber : Grammar → List ℕ
 byNumber g = upFrom 0 (length (g .productions))
 
-unfoldable pub test : ℕ → List ℕ → ℕ → ℕ → Outcome
-test w bs limit room =
-    cond (eqb (refusal bs) 0) (passes (systemOf w (grammarOf bs)) limit room (byNumber (grammarOf bs)))
+unfoldable pub test : List ℕ → ℕ → ℕ → Outcome
+test bs limit room =
+    cond (eqb (refusal bs) 0) (passes (systemIn bs) limit room (byNumber (grammarOf bs)))
     (outcome (numbered (refusal bs)) noRoot empty 0)

@@ -3,6 +3,8 @@ use mathlib.Core.List.{List}
 use Prim.Native.Nat.{ℕ, _*_, _/_, min}
 use lib.ListN.{length, set}
 use lib.Seq.{sets}
+use denote.Ref.{RefT, now}
+use denote.Triple.Both.{Both}
 use Rattle.rules.specs.declared.Entry.{Entry}
 
 pub record Slices : Type 0 where
@@ -13,6 +15,22 @@ pub record Slices : Type 0 where
 
 abbrev pub slices : List ℕ → List ℕ → List ℕ → List ℕ → Slices
 slices a b c d = record { symbols = a; graphs = b; productions = c; kids = d }
+
+-- ---- the lent slices in a contract: what they hold when it is read, when the function is called, and when it has returned
+
+abbrev pub Lent : Type 0
+Lent = RefT (List ℕ)
+
+abbrev pub lent : Lent → Lent → Lent → Lent → Slices
+lent a b c d = slices (now a) (now b) (now c) (now d)
+
+abbrev pub atEntry : Both Lent Lent → Both Lent Lent → Both Lent Lent → Both Lent Lent → Slices
+atEntry a b c d = lent (a .entry) (b .entry) (c .entry) (d .entry)
+
+abbrev pub atExit : Both Lent Lent → Both Lent Lent → Both Lent Lent → Both Lent Lent → Slices
+atExit a b c d = lent (a .exit) (b .exit) (c .exit) (d .exit)
+
+-- ---- the room
 
 -- the room is the smallest of what each slice can hold, seven kids for each entry, and at most 4096
 abbrev pub roomOf : Slices → ℕ

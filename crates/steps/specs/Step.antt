@@ -6,6 +6,7 @@ use Prim.Native.Nat.{ℕ, zero, suc, _+_, _-_, _*_, _≤_, _<_}
 use lib.Dec.{leb, ltb, eqb}
 use lib.ListN.{length, getD, take}
 use Rattle.numbers.specs.Lists.{both}
+use Rattle.grammar.specs.Table.{attributes}
 use Rattle.graph.specs.Rows.{placedFrom, closure, hasCircle, rootGraph}
 use Rattle.rules.specs.declared.Answer.{Answer}
 use Rattle.rules.specs.declared.Answer.the-variants.{Noncircular, Circular, OutOfSteps, OutOfRoom}
@@ -28,7 +29,7 @@ stops a root left stored = record { going = false; answer = a; root = root; left
 
 -- the closed rows over the graphs gs, where `rows` are a production's own
 abbrev pub closedOver : List ℕ → List ℕ → List ℕ
-closedOver rows gs = closure (take (8 * suc (length gs)) (placedFrom 8 1 gs rows))
+closedOver rows gs = closure (take (attributes * suc (length gs)) (placedFrom attributes 1 gs rows))
 
 -- the graphs of the picked entries
 abbrev pub graphsOf : List ℕ → Task → List ℕ → List ℕ
@@ -55,8 +56,8 @@ verdict false false false false graph = New graph
 unfoldable pub judged : Task → List ℕ → List ℕ → List ℕ → Run → List ℕ → Verdict
 judged k rows symbols graphs r picked =
     let closed = closedOver rows (graphsOf graphs k picked) in
-    verdict (eqb (r .left) 0) (hasCircle closed) (seenIn symbols graphs (k .symbol) (rootGraph 8 closed) (r .stored))
-    (eqb (r .stored) (k .room)) (rootGraph 8 closed)
+    verdict (eqb (r .left) 0) (hasCircle closed) (seenIn symbols graphs (k .symbol) (rootGraph attributes closed) (r .stored))
+    (eqb (r .stored) (k .room)) (rootGraph attributes closed)
 
 -- ---- what is done
 

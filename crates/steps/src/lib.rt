@@ -3,8 +3,9 @@ ghost use mathlib.Core.Path.{_≡_};
 ghost use Prim.Native.Nat.{_+_, _/_, _≤_, min};
 ghost use lib.ListN.{length};
 ghost use lib.Seq.{sets};
+ghost use Rattle.grammar.specs.Table.{attributes};
 ghost use Rattle.graph.specs.Rows.{placedFrom, hasCircle, rootGraph};
-ghost use Rattle.steps.specs.Slices.{slices};
+ghost use Rattle.steps.specs.Slices.{atEntry, atExit};
 ghost use Rattle.steps.specs.Step.{
   goesOn,
   stops,
@@ -71,7 +72,7 @@ pub fn room_of(symbols: usize, graphs: usize, productions: usize, kids: usize) -
 // The rows of the compound graph: to the production's own, each picked entry's pairs at its occurrence.
 fn compound(graphs: &[u64], rows: &mut [u64; 64], task: Task, picked: [u16; 7])
     requires { ⌜ PickedIn (now graphs) task picked ⌝ }
-    ensures { λ _. ⌜ now (rows .exit) ≡ placedFrom 8 1 (graphsOf (now (graphs .entry)) task picked) (now (rows .entry)) ⌝ }
+    ensures { λ _. ⌜ now (rows .exit) ≡ placedFrom attributes 1 (graphsOf (now (graphs .entry)) task picked) (now (rows .entry)) ⌝ }
 {
     let count = task.count;
     let mut k = 0;
@@ -87,7 +88,7 @@ fn compound(graphs: &[u64], rows: &mut [u64; 64], task: Task, picked: [u16; 7])
 fn closure(graphs: &[u64], own: &[u64; 64], task: Task, picked: [u16; 7]) -> Closed
     requires { ⌜ PickedIn (now graphs) task picked ⌝ }
     ensures { λ r. ⌜ (r .circle ≡ hasCircle (closedOver (now (own .entry)) (graphsOf (now (graphs .entry)) task picked)))
-        × (r .graph ≡ rootGraph 8 (closedOver (now (own .entry)) (graphsOf (now (graphs .entry)) task picked))) ⌝ }
+        × (r .graph ≡ rootGraph attributes (closedOver (now (own .entry)) (graphsOf (now (graphs .entry)) task picked))) ⌝ }
 {
     let occurrences = task.count + 1;
     let mut rows = *own;
@@ -222,8 +223,8 @@ pub fn try_one(
     run: Run,
 ) -> Run
     ensures { λ r. ⌜ Tried task (now (own .entry)) picked run
-        (slices (now (symbols .entry)) (now (graphs .entry)) (now (productions .entry)) (now (kids .entry))) r
-        (slices (now (symbols .exit)) (now (graphs .exit)) (now (productions .exit)) (now (kids .exit))) ⌝ }
+        (atEntry symbols graphs productions kids) r
+        (atExit symbols graphs productions kids) ⌝ }
 {
     let room = room_of(symbols.len(), graphs.len(), productions.len(), kids.len());
     if !fitting(room, task, picked, run) {

@@ -20,7 +20,7 @@ unfolding linesOpened
 decimals = refl
 
 abbrev printedOf : List ℕ → ℕ → ℕ → List ℕ
-printedOf table limit room = printed (kidsIn table) (test 8 table limit room)
+printedOf table limit room = printed (kidsIn table) (test table limit room)
 
 -- B's report, whole, as `circ` prints it
 pub printed-B :

@@ -20,7 +20,7 @@ use Rattle.trees.proofs.Evaluators as evaluators
 use Rattle.rules.specs.declared.Answer.{Answer}
 use Rattle.rules.specs.declared.Answer.the-variants.{Noncircular, Circular, Refused, OutOfSteps, OutOfRoom}
 use Rattle.rules.specs.Passes.{Outcome, outcome, noRoot, empty, numbered, passes}
-use Rattle.rules.specs.Test.{systemOf, byNumber, test}
+use Rattle.rules.specs.Test.{systemIn, byNumber, test}
 use Rattle.orders.specs.Answers as runs
 use Rattle.orders.specs.Stored.{In}
 use Rattle.orders.proofs.Answers as runs-shown
@@ -59,7 +59,7 @@ some-rule bs k (Breaks.edge-order a i b c d e) = (6, refl)
 
 module _ (bs : List ℕ) where
   abbrev ran : ℕ → ℕ → Outcome
-  ran limit room = passes (systemOf 8 (grammarOf bs)) limit room (byNumber (grammarOf bs))
+  ran limit room = passes (systemIn bs) limit room (byNumber (grammarOf bs))
 
   -- either the passes are run, or the table breaks a rule
   taken : refusal bs ≡ 0 → (limit room : ℕ) → back bs limit room ≡ ran limit room
@@ -101,10 +101,10 @@ module _ (bs : List ℕ) where
       go (inr (k, b)) = absurd (n (ap case (sym h) ∙ ap (λ (o : Outcome). case (o .report .answer)) (refused k b limit room)))
 
   module _ (good : refusal bs ≡ 0) where
-    sound : (limit room : ℕ) → runs.Sound (systemOf 8 (grammarOf bs)) (In (byNumber (grammarOf bs))) limit room (back bs limit room)
+    sound : (limit room : ℕ) → runs.Sound (systemIn bs) (In (byNumber (grammarOf bs))) limit room (back bs limit room)
     sound limit room =
-        subst (runs.Sound (systemOf 8 (grammarOf bs)) (In (byNumber (grammarOf bs))) limit room) (sym (taken good limit room))
-        (runs-shown.outcome-sound (systemOf 8 (grammarOf bs)) (byNumber (grammarOf bs)) limit room)
+        subst (runs.Sound (systemIn bs) (In (byNumber (grammarOf bs))) limit room) (sym (taken good limit room))
+        (runs-shown.outcome-sound (systemIn bs) (byNumber (grammarOf bs)) limit room)
 
 -- ---- demand 1
 pub refused-exactly : RefusedExactlyAlways back
@@ -114,13 +114,13 @@ refused-exactly bs limit room k = record {
 }
   where
     sound-answer : refusal bs ≡ 0
-        → runs.Says (systemOf 8 (grammarOf bs)) (In (byNumber (grammarOf bs))) limit room (ran bs limit room) (said (ran bs limit room))
-    sound-answer e = runs-shown.outcome-sound (systemOf 8 (grammarOf bs)) (byNumber (grammarOf bs)) limit room .says
+        → runs.Says (systemIn bs) (In (byNumber (grammarOf bs))) limit room (ran bs limit room) (said (ran bs limit room))
+    sound-answer e = runs-shown.outcome-sound (systemIn bs) (byNumber (grammarOf bs)) limit room .says
 
     go : answer bs limit room ≡ Refused k → (refusal bs ≡ 0) ⊎ ((j : ℕ) × Breaks bs j) → Breaks bs k
     go h (inl e) =
         absurd
-        (subst (runs.Says (systemOf 8 (grammarOf bs)) (In (byNumber (grammarOf bs))) limit room (ran bs limit room))
+        (subst (runs.Says (systemIn bs) (In (byNumber (grammarOf bs))) limit room (ran bs limit room))
         (ap said (sym (taken bs e limit room)) ∙ h) (sound-answer e))
     go h (inr (j, b)) =
         let q : Refused j ≡ Refused k = ap said (sym (refused bs j b limit room)) ∙ h in
@@ -132,7 +132,7 @@ pub circular-shown : CircularShownAlways back
 circular-shown bs limit room p h =
     let good = not-refused bs limit room (Circular p) h (λ e. omega arith) in
     let s = sound bs good limit room in
-    let root = subst (runs.Says (systemOf 8 (grammarOf bs)) (In (byNumber (grammarOf bs))) limit room (back bs limit room)) h (s .says) in
+    let root = subst (runs.Says (systemIn bs) (In (byNumber (grammarOf bs))) limit room (back bs limit room)) h (s .says) in
     record {
       complete =
           root-complete 8 (grammarOf bs) (obeys bs good .0) (obeys bs good .1) (back bs limit room .entries) (s .made) p
@@ -155,7 +155,7 @@ full bs limit room h =
     let good = not-refused bs limit room Noncircular h (λ e. omega arith) in
     let s = sound bs good limit room in
     saturated 8 (grammarOf bs) (obeys bs good .0) (obeys bs good .1) (back bs limit room .entries)
-    (subst (runs.Says (systemOf 8 (grammarOf bs)) (In (byNumber (grammarOf bs))) limit room (back bs limit room)) h (s .says) .0)
+    (subst (runs.Says (systemIn bs) (In (byNumber (grammarOf bs))) limit room (back bs limit room)) h (s .says) .0)
 
 pub noncircular-none : NoncircularNoneAlways back
 noncircular-none bs limit room h t w c =
@@ -167,7 +167,7 @@ steps-exactly bs L M room lt = go (either bs)
   where
     go : (refusal bs ≡ 0) ⊎ ((k : ℕ) × Breaks bs k) → StepsExactly bs L M room (back bs L room)
     go (inl e) =
-        let x = runs-shown.steps-exactly (systemOf 8 (grammarOf bs)) (byNumber (grammarOf bs)) L M room lt in
+        let x = runs-shown.steps-exactly (systemIn bs) (byNumber (grammarOf bs)) L M room lt in
         let y = subst₂ (runs.StepsCompared L) (sym (taken bs e L room)) (sym (taken bs e M room)) x in
         record { exactly = y .exactly; else = y .else }
     go (inr (k, b)) =
@@ -186,7 +186,7 @@ room-exactly bs limit l R S lt low high = go (either bs)
   where
     go : (refusal bs ≡ 0) ⊎ ((k : ℕ) × Breaks bs k) → RoomExactly bs limit l R S (back bs limit R)
     go (inl e) =
-        let W = systemOf 8 (grammarOf bs) in
+        let W = systemIn bs in
         let c = ap (λ (o : Outcome). o .report .closures) (taken bs e limit R) in
         let x = runs-shown.room-exactly W (byNumber (grammarOf bs)) limit R S l lt (omega arith) high in
         let y = subst₂ (runs.RoomCompared R) (sym (taken bs e limit R)) (sym (taken bs e l S)) x in
@@ -211,14 +211,14 @@ room-counts bs limit R unbroken calm enough = go (answer bs limit R) refl (s .sa
     good : refusal bs ≡ 0
     good = when-unbroken bs unbroken
 
-    s : runs.Sound (systemOf 8 (grammarOf bs)) (In (byNumber (grammarOf bs))) limit R (back bs limit R)
+    s : runs.Sound (systemIn bs) (In (byNumber (grammarOf bs))) limit R (back bs limit R)
     s = sound bs good limit R
 
     pair : (q : ℕ × ℕ) → (q .1 < 2 ^ 64) × OfTree (grammarOf bs) (NumberHolds 8) (InTable (grammarOf bs)) q → TreePair bs q
     pair q h = record { number = h .0; of-tree = h .1 }
 
     go : (a : Answer) → answer bs limit R ≡ a
-        → runs.Says (systemOf 8 (grammarOf bs)) (In (byNumber (grammarOf bs))) limit R (back bs limit R) a
+        → runs.Says (systemIn bs) (In (byNumber (grammarOf bs))) limit R (back bs limit R) a
         → RoomCounts bs R (back bs limit R)
     go Noncircular h says =
         let g = grammarOf bs in

@@ -9,13 +9,12 @@ use Rattle.numbers.specs.Lists.{written}
 use Rattle.rules.specs.declared.Report.{Report}
 use Rattle.rules.specs.declared.Entry.{Entry}
 use Rattle.rules.specs.Passes.{Outcome, entry}
-use Rattle.passes.specs.Slices.{Slices, slices, roomOf, kidsOf, Tested}
-use Rattle.passes.specs.Follow.{entryAt, entriesTo}
+use Rattle.passes.specs.Slices.{Slices, slices, roomOf, allKids, Tested, entryAt, entriesTo, readOut}
 use Rattle.rules.proofs.Stored.{Counted, counted-test}
 use Rattle.passes.proofs.Entries.{entry-at}
 use Rattle.passes.proofs.Told.{length-kids, entries-told}
 use Rattle.verdict.specs.Demands.{back}
-use Rattle.verdict.specs.Program.{readOut, Stands, RestBefore, Demanded, ProgramAlways, RowAlways}
+use Rattle.verdict.specs.Program.{Stands, RestBefore, Demanded, ProgramAlways, RowAlways}
 use Rattle.verdict.proofs.Demands.{refused-exactly, circular-shown, noncircular-none, steps-exactly, room-exactly, room-counts, never-still, stands-still}
 
 -- ---- read off the slices
@@ -32,7 +31,7 @@ module _ (bs : List ℕ) (limit : ℕ) (σ : Slices) (r : Report) (τ : Slices) 
   es = back bs limit R .entries
 
   sound : Counted (roomOf σ) (back bs limit (roomOf σ))
-  sound = counted-test 8 bs limit R
+  sound = counted-test bs limit R
 
   count : length (back bs limit (roomOf σ) .entries) ≡ r .entries
   count = sym (ap (λ (x : Report). x .entries) (promised .report) ∙ sound .count)
@@ -66,7 +65,7 @@ module _ (bs : List ℕ) (limit : ℕ) (σ : Slices) (r : Report) (τ : Slices) 
         behind (map (λ e. e .production) es) (σ .productions) (τ .productions) (r .entries) (promised .productions)
         (length-map es (λ e. e .production) ∙ count);
     kids =
-        behind (kidsOf es) (σ .kids) (τ .kids) (7 * r .entries) (promised .kids)
+        behind (allKids es) (σ .kids) (τ .kids) (7 * r .entries) (promised .kids)
         (length-kids es (sound .sound .slots) ∙ ap (λ (n : ℕ). 7 * n) count);
   }
 
@@ -76,13 +75,13 @@ module _ (bs : List ℕ) (limit : ℕ) (σ : Slices) (r : Report) (τ : Slices) 
       λ j. record { report = promised .report j; entries = same j }
 
   untouched : (outcome : Outcome) → back bs limit (roomOf σ) ≡ outcome → outcome .entries ≡ [] → τ ≡ σ
-  unfolding kidsOf
+  unfolding allKids
   untouched o h none =
       let e : back bs limit R .entries ≡ [] = ap (λ (x : Outcome). x .entries) h ∙ none in
       let a = promised .symbols ∙ ap (λ (l : List Entry). written (map (λ (e : Entry). e .symbol) l) (σ .symbols)) e in
       let b = promised .graphs ∙ ap (λ (l : List Entry). written (map (λ (e : Entry). e .graph) l) (σ .graphs)) e in
       let c = promised .productions ∙ ap (λ (l : List Entry). written (map (λ (e : Entry). e .production) l) (σ .productions)) e in
-      let d = promised .kids ∙ ap (λ (l : List Entry). written (kidsOf l) (σ .kids)) e in
+      let d = promised .kids ∙ ap (λ (l : List Entry). written (allKids l) (σ .kids)) e in
       λ i. slices (a i) (b i) (c i) (d i)
 
 -- ---- all that is asked
@@ -114,7 +113,7 @@ program bs limit σ r τ promised =
 pub program-of-records : RowAlways
 program-of-records bs limit R r before after report row =
     let es = back bs limit R .entries in
-    let n : length es ≡ r .entries = sym (ap (λ (x : Report). x .entries) report ∙ counted-test 8 bs limit R .count) in
+    let n : length es ≡ r .entries = sym (ap (λ (x : Report). x .entries) report ∙ counted-test bs limit R .count) in
     let front : take (r .entries) after ≡ back bs limit R .entries =
     ap (take (r .entries)) row ∙ take-at es (drop (length es) before) (r .entries) n in
     demanded bs limit R _ (λ j. record { report = report j; entries = front j })

@@ -19,7 +19,7 @@ use Rattle.trees.proofs.Counting.{length-pairs, pairs-differ, pairs-of-trees, o
 use Rattle.rules.specs.declared.Entry.{Entry}
 use Rattle.rules.specs.Passes.{entry}
 use Rattle.rules.specs.Test.{systemOf, byNumber}
-use Rattle.orders.specs.Stored.{In, Made, Different, Holds}
+use Rattle.orders.specs.Stored.{In, Made, Different, PairStored}
 use Rattle.verdict.specs.Demands.{told}
 use Rattle.verdict.proofs.Trees.{small, all-derived, next-tree}
 
@@ -64,7 +64,7 @@ module _ (w : ℕ) (g : Grammar) (formed : WellFormed g) (few : AtMost w g) (es 
     no-more = counting-numbers g w (InTable g) (told g es) (length es) low full
 
   -- a pair that is not stored, made of the entries: with the entries it is one more
-  pub one-more : (e : Entry) → Made (systemOf w g) (In (byNumber g)) es (length es) e → (Holds es (e .symbol) (e .graph) → ⊥)
+  pub one-more : (e : Entry) → Made (systemOf w g) (In (byNumber g)) es (length es) e → (PairStored es (e .symbol) (e .graph) → ⊥)
       → (l : List (ℕ × ℕ)) × Distinct l × (length es < length l) × ((q : ℕ × ℕ) → List·Memᴰ q l → Pair q)
   one-more e m new = (
     (e .symbol, e .graph) ∷ stored,

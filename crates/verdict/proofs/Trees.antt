@@ -18,7 +18,7 @@ use Rattle.trees.proofs.Shown.{fits-below, graphs-count, shown-complete, shown-
 use Rattle.rules.specs.declared.Entry.{Entry}
 use Rattle.rules.specs.Passes.{System, entry, graphs}
 use Rattle.rules.specs.Test.{closed, systemOf, byNumber}
-use Rattle.orders.specs.Stored.{In, Combination, Made, Root, Saturated}
+use Rattle.orders.specs.Stored.{In, Combination, Made, Root, AllMade}
 use Rattle.verdict.specs.Demands.{kidsOf, told}
 use Rattle.verdict.proofs.Bridge.{circle-so, graph-so}
 
@@ -118,7 +118,7 @@ module _ (w : ℕ) (g : Grammar) (formed : WellFormed g) (few : AtMost w g) wher
           (root .round))
 
   -- a store to which nothing is left to add
-  pub saturated : (es : List Entry) → Saturated (systemOf w g) (In (byNumber g)) es
+  pub saturated : (es : List Entry) → AllMade (systemOf w g) (In (byNumber g)) es
       → record-of-trees.Saturated g (NumberHolds w) (InTable g) (told g es) (length es)
   unfolding systemOf
   saturated es s = record {

@@ -31,7 +31,7 @@ Version = List ℕ → ℕ → ℕ → Outcome
 
 -- what comes back by the rules, for eight attributes
 abbrev pub back : Version
-back bs limit room = test 8 bs limit room
+back bs limit room = test bs limit room
 
 abbrev pub said : Outcome → Answer
 said o = o .report .answer

@@ -11,13 +11,8 @@ use Rattle.rules.specs.declared.Answer.the-variants.{Noncircular, Circular, Out
 use Rattle.rules.specs.declared.Report.{Report}
 use Rattle.rules.specs.declared.Entry.{Entry}
 use Rattle.rules.specs.Passes.{Outcome, entry}
-use Rattle.passes.specs.Slices.{Slices, roomOf, Tested}
-use Rattle.passes.specs.Follow.{entriesTo}
+use Rattle.passes.specs.Slices.{Slices, roomOf, Tested, readOut}
 use Rattle.verdict.specs.Demands.{back, said, NoRuleBroken, TreeOf, shownTree, RefusedExactly, CircularShown, NoncircularNone, StepsExactly, RoomExactly, RoomCounts, NeverStill, StandsStillLeft}
-
--- what a caller reads: the report, and as many entries out of the slices as it says
-abbrev pub readOut : Report → Slices → Outcome
-readOut r τ = record { report = r; entries = entriesTo τ (r .entries) }
 
 -- the entry k of what comes back stands at k in the slices
 pub record Stands (bs : List ℕ) (limit : ℕ) (σ τ : Slices) (k : ℕ) : Type 0 where

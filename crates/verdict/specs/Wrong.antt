@@ -8,7 +8,7 @@ use Rattle.grammar.specs.Table.{grammarOf}
 use Rattle.grammar.specs.Refusal.{refusal}
 use Rattle.rules.specs.declared.Answer.the-variants.{Noncircular, Circular, Refused, OutOfSteps, OutOfRoom}
 use Rattle.rules.specs.Passes.{Outcome, outcome, numbered, noRoot, pass, after, empty}
-use Rattle.rules.specs.Test.{systemOf, byNumber}
+use Rattle.rules.specs.Test.{systemIn, byNumber}
 use Rattle.verdict.specs.Demands.{Version, said}
 
 abbrev pub RefusesEvery : Version → Type 0
@@ -36,7 +36,7 @@ BeginsOnePass bs limit room v = v bs limit room .report .passes ≤ 1
 abbrev pub onePass : Version
 onePass bs limit room =
     cond (eqb (refusal bs) 0)
-    (after empty 1 (pass (systemOf 8 (grammarOf bs)) limit room (byNumber (grammarOf bs)) empty) (λ s. outcome Noncircular noRoot s 1))
+    (after empty 1 (pass (systemIn bs) limit room (byNumber (grammarOf bs)) empty) (λ s. outcome Noncircular noRoot s 1))
     (outcome (numbered (refusal bs)) noRoot empty 0)
 
 -- the count of closures is the invented number n

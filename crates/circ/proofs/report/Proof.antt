@@ -4,7 +4,7 @@ use native.Mathlib.Omega.{arith}
 use borrow.Author.Needs.{needs}
 use Rattle.passes.specs.Slices.{slices, roomOf}
 use Rattle.print.proofs.Stored.{always-printed}
-use Rattle.circ.specs.Whole.{reportOf}
+use Rattle.circ.specs.Whole.{circText}
 use Rattle.circ.proofs.report.Statement.{statement}
 use Rattle.circ.proofs.report.Tie as tie
 
@@ -39,7 +39,7 @@ same-length : tie.Need-same-length
 same-length c = search needs
 
 returns : tie.Need-returns
-unfolding reportOf
+unfolding circText
 returns c =
     let tested = c .before .before .before .before .before .before in
     let at-kids = tested .before .before .before .before .before .before in

@@ -4,7 +4,8 @@ use Prim.Native.Nat.{_+_, _-_, _≤_}
 use native.Mathlib.Omega.{arith}
 use lib.ListN.{length}
 use borrow.Author.Needs.{needs}
-use Rattle.graph.specs.Rows.{through, mapFirst}
+use Rattle.graph.specs.Rows.{through}
+use Rattle.graph.specs.Parts.{mapFirst}
 use Rattle.graph.proofs.Turns.{map-more, length-map-first}
 use Rattle.closures.proofs.step_through.Statement.{statement}
 use Rattle.closures.proofs.step_through.Tie as tie

@@ -3,7 +3,7 @@ use mathlib.Core.Path.{_≡_, refl}
 use Prim.Native.Nat.{_-_, _≤_}
 use native.Mathlib.Omega.{arith}
 use borrow.Author.Needs.{needs}
-use Rattle.graph.specs.Rows.{targetsTo}
+use Rattle.graph.specs.Parts.{targetsTo}
 use Rattle.graph.proofs.Turns.{targets-more}
 use Rattle.closures.proofs.targets.Statement.{statement}
 use Rattle.closures.proofs.targets.Tie as tie

@@ -5,7 +5,7 @@ use native.Mathlib.Omega.{arith}
 use lib.ListN.{length, take}
 use borrow.Author.Needs.{needs}
 use Rattle.texts.specs.Lines.{spaced}
-use Rattle.lines.specs.Pieces.{Follows}
+use Rattle.lines.specs.Pieces.{PieceAfter}
 use Rattle.lines.proofs.Pieces.{nothing, then, within}
 use Rattle.numbers.proofs.Parts.{take-clipped}
 use Rattle.texts.proofs.Spaced.{one-more}
@@ -13,7 +13,7 @@ use Rattle.lines.proofs.with_kids.Statement.{statement}
 use Rattle.lines.proofs.with_kids.Tie as tie
 
 abbrev Inv-loop : tie.InvT-loop
-Inv-loop n kids count to-kid₀ i₀ to-kid i = (i ≤ count) × Follows (spaced (take i kids)) (6 * i) to-kid₀ to-kid
+Inv-loop n kids count to-kid₀ i₀ to-kid i = (i ≤ count) × PieceAfter (spaced (take i kids)) (6 * i) to-kid₀ to-kid
 
 abbrev μ-loop : tie.MeasureT-loop
 μ-loop n kids count to-kid₀ i₀ to-kid i = count - i

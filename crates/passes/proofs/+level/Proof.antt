@@ -7,7 +7,7 @@ use borrow.Author.Tests.{not-true, not-false}
 use native.Mathlib.Omega.{arith}
 use lib.ListN.{length}
 use Rattle.passes.specs.Slices.{Slices, slices}
-use Rattle.passes.specs.Follow.{Kept, Roomy, Ready, Picked}
+use Rattle.passes.specs.Follow.{Kept, Roomy, InTurn, Picked}
 use Rattle.passes.proofs.Following.{kept-roomy, kept-ready}
 use Rattle.passes.proofs.Levels.{Passed, level-leaf, level-start, level-hit, level-other, level-end, level-stop, picked-more}
 use Rattle.passes.proofs.Six.{length-picked, follows-tried}
@@ -57,7 +57,7 @@ module _ (t : ℕ) (c : level-lts.At-loop (K t) (level-at t) level.Post level-In
   abbrev σ : Slices
   σ = slices (c .loop .symbols) (c .loop .graphs) (c .loop .productions) (c .loop .kids)
 
-  ready : Ready (start .args .task) σ₀ (start .args .run)
+  ready : InTurn (start .args .task) σ₀ (start .args .run)
   ready = start .pre .1 .1
 
   numbers : Picked (start .args .task) at (start .args .picked)

@@ -7,7 +7,7 @@ use native.Mathlib.Omega.{arith}
 use Rattle.numbers.specs.Lists.{upFrom}
 use Rattle.grammar.specs.Table.{grammarOf}
 use Rattle.rules.specs.Passes.{System}
-use Rattle.rules.specs.Test.{systemOf}
+use Rattle.rules.specs.Test.{systemIn}
 use Rattle.passes.specs.Slices.{Slices, slices}
 use Rattle.passes.specs.Follow.{Follows, Kept, Roomy}
 use Rattle.passes.proofs.Following.{kept-roomy}
@@ -19,7 +19,7 @@ use Rattle.passes.proofs.pass.Tie as tie
 abbrev Inv-loop : tie.InvT-loop
 Inv-loop table count symbols₀ graphs₀ productions₀ kids₀ room now₀ number₀ symbols graphs productions kids now number =
     (number ≤ count)
-    × Follows room (through (systemOf 8 (grammarOf table)) room (upFrom 0 number)) (slices symbols₀ graphs₀ productions₀ kids₀) now₀
+    × Follows room (through (systemIn table) room (upFrom 0 number)) (slices symbols₀ graphs₀ productions₀ kids₀) now₀
     (slices symbols graphs productions kids) now
 
 abbrev μ-loop : tie.MeasureT-loop
@@ -31,7 +31,7 @@ module _ (c : tie.At-loop Inv-loop μ-loop) where
   start = c .before .before .before .before .before .before
 
   abbrev W : System
-  W = systemOf 8 (grammarOf (start .args .table .now))
+  W = systemIn (start .args .table .now)
 
   abbrev σ₀ : Slices
   σ₀ = slices (start .args .symbols .now) (start .args .graphs .now) (start .args .productions .now) (start .args .kids .now)
@@ -48,7 +48,7 @@ module _ (c : tie.At-loop Inv-loop μ-loop) where
 loop-holds : tie.Need-loop-holds Inv-loop μ-loop
 loop-holds c =
     let s = c .before .before .before .before .before in
-    (search needs, pass-start (systemOf 8 (grammarOf (s .args .table .now))) (s .args .room) _ (s .args .run) (s .pre .2 .stored))
+    (search needs, pass-start (systemIn (s .args .table .now)) (s .args .room) _ (s .args .run) (s .pre .2 .stored))
 
 same-length : tie.Need-same-length Inv-loop μ-loop
 same-length c = kept (c .before .before .before) .symbols .long

@@ -10,7 +10,7 @@ use Rattle.numbers.specs.Lists.{upFrom}
 use Rattle.grammar.specs.Table.{grammarOf}
 use Rattle.steps.specs.declared.Run.{Run}
 use Rattle.rules.specs.Passes.{System}
-use Rattle.rules.specs.Test.{systemOf}
+use Rattle.rules.specs.Test.{systemIn}
 use Rattle.passes.specs.Slices.{Slices, slices}
 use Rattle.steps.specs.Step.{goesOn}
 use Rattle.passes.specs.Follow.{Follows, Kept, Roomy}
@@ -22,7 +22,7 @@ use Rattle.passes.proofs.passes.Tie as tie
 
 abbrev Inv-loop : tie.InvT-loop
 Inv-loop table count symbols₀ graphs₀ productions₀ kids₀ room limit now₀ begun₀ symbols graphs productions kids now begun =
-    Reached (systemOf 8 (grammarOf table)) limit room (upFrom 0 count) (slices symbols₀ graphs₀ productions₀ kids₀) now₀ begun
+    Reached (systemIn table) limit room (upFrom 0 count) (slices symbols₀ graphs₀ productions₀ kids₀) now₀ begun
     (slices symbols graphs productions kids) now
 
 abbrev μ-loop : tie.MeasureT-loop
@@ -34,7 +34,7 @@ module _ (c : tie.At-loop Inv-loop μ-loop) where
   start = c .before .before .before .before .before .before .before
 
   abbrev W : System
-  W = systemOf 8 (grammarOf (start .args .table .now))
+  W = systemIn (start .args .table .now)
 
   abbrev ps : List ℕ
   ps = upFrom 0 (start .args .count)
@@ -87,7 +87,7 @@ loop-holds : tie.Need-loop-holds Inv-loop μ-loop
 loop-holds c =
     let s = c .before .before .before .before .before .before in
     let b = c .begins .ensures in
-    reached-start (systemOf 8 (grammarOf (s .args .table .now))) (s .args .limit) (s .args .room) (upFrom 0 (s .args .count)) _ (c .begins .result)
+    reached-start (systemIn (s .args .table .now)) (s .args .limit) (s .args .room) (upFrom 0 (s .args .count)) _ (c .begins .result)
     (ap (λ (x : Run). x .left) b) (ap (λ (x : Run). x .stored) b) (ap (λ (x : Run). x .going) b)
 
 add-begun : tie.Need-add-begun Inv-loop μ-loop

@@ -5,7 +5,7 @@ use borrow.Author.Tests.{not-true}
 use native.Mathlib.Omega.{arith}
 use lib.ListN.{replicate}
 use Rattle.passes.specs.Slices.{Slices, slices}
-use Rattle.passes.specs.Follow.{Ready, ownOf}
+use Rattle.passes.specs.Follow.{InTurn, ownOf}
 use Rattle.passes.proofs.Combinations.{combos-none}
 use Rattle.passes.proofs.Levels.{over-none, picked-none}
 use Rattle.passes.proofs.Tables.{few-productions, task-ready, task-turn}
@@ -19,7 +19,7 @@ module _ (c : tie.After-task-of) where
   abbrev σ : Slices
   σ = slices (start .args .symbols .now) (start .args .graphs .now) (start .args .productions .now) (start .args .kids .now)
 
-  ready : Ready (c .task-of .result) σ (start .args .run)
+  ready : InTurn (c .task-of .result) σ (start .args .run)
   ready =
       task-ready (start .args .table .now) (start .pre .0) (start .args .number) (start .args .room) (start .pre .1) σ (start .args .run)
       (c .task-of .result) (c .task-of .ensures) (start .pre .2) (start .pre .3)

@@ -5,7 +5,7 @@ use mir.Syntax.{w16}
 use mir.Val.{Fits}
 use lib.ListN.{getD}
 use Rattle.texts.proofs.Short.{entry-short}
-use Rattle.passes.specs.Follow.{entryAt}
+use Rattle.passes.specs.Slices.{entryAt}
 use Rattle.print.proofs.entry_line.Statement.{statement}
 use Rattle.print.proofs.entry_line.Tie as tie
 

@@ -4,8 +4,7 @@ use Prim.Native.Nat.{_*_, _-_, _≤_}
 use native.Mathlib.Omega.{arith}
 use borrow.Author.Needs.{needs}
 use Rattle.texts.specs.Lines.{entryLines}
-use Rattle.passes.specs.Slices.{slices}
-use Rattle.passes.specs.Follow.{entriesTo}
+use Rattle.passes.specs.Slices.{slices, entriesTo}
 use Rattle.print.specs.Texts.{kidsIn, Placed}
 use Rattle.print.proofs.Placing.{nothing, within, then, placed-length, one-more}
 use Rattle.print.proofs.entry_lines.Statement.{statement}

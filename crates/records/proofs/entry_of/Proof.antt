@@ -1,6 +1,6 @@
 -- `records::entry_of` meets its promise. Assumes nothing.
 use borrow.Author.Needs.{needs}
-use Rattle.passes.specs.Follow.{entryAt}
+use Rattle.passes.specs.Slices.{entryAt}
 use Rattle.records.proofs.entry_of.Statement.{statement}
 use Rattle.records.proofs.entry_of.Tie as tie
 

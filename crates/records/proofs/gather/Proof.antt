@@ -10,8 +10,7 @@ use Rattle.rules.specs.declared.Entry.{Entry}
 use Rattle.rules.specs.declared.Report.{Report}
 use Rattle.rules.specs.Passes.{Outcome}
 use Rattle.rules.specs.Test.{test}
-use Rattle.passes.specs.Slices.{Slices, roomOf, Tested}
-use Rattle.passes.specs.Follow.{entriesTo}
+use Rattle.passes.specs.Slices.{Slices, roomOf, Tested, entriesTo}
 use Rattle.records.specs.declared.Ran.{Ran}
 use Rattle.records.specs.Records.{zeros, ranOf}
 use Rattle.rules.proofs.Stored.{Counted, counted-test}
@@ -21,10 +20,10 @@ use Rattle.records.proofs.gather.Tie as tie
 
 module _ (bs : List ℕ) (limit : ℕ) (σ : Slices) (r : Report) (τ : Slices) (told : Tested bs limit σ r τ) (n : ℕ) (wide : n ≡ r .entries) where
   abbrev o : Outcome
-  o = test 8 bs limit (roomOf σ)
+  o = test bs limit (roomOf σ)
 
   counted : Counted (roomOf σ) o
-  counted = counted-test 8 bs limit (roomOf σ)
+  counted = counted-test bs limit (roomOf σ)
 
   n-is : n ≡ length (o .entries)
   n-is = wide ∙ ap (λ (x : Report). x .entries) (told .report) ∙ counted .count

@@ -9,8 +9,7 @@ use borrow.Author.Needs.{needs}
 use Rattle.numbers.specs.Lists.{written}
 use Rattle.rules.specs.declared.Entry.{Entry}
 use Rattle.rules.specs.Passes.{noEntry}
-use Rattle.passes.specs.Slices.{Slices, slices}
-use Rattle.passes.specs.Follow.{entryAt, entriesTo}
+use Rattle.passes.specs.Slices.{Slices, slices, entryAt, entriesTo}
 use Rattle.passes.proofs.Entries.{length-entries}
 use Rattle.records.specs.Records.{zeros}
 use Rattle.rows.proofs.Writing.{written-snoc}

@@ -21,10 +21,10 @@ front n m l =
 
 -- the parts that are lent have the room that is asked for
 whole : (bs : List ℕ) (limit room n : ℕ) (r : Ran) → n ≡ min 4096 room
-    → r ≡ ranOf (test 8 bs limit (roomOf (slices (take n (replicate 4096 0)) (take n (replicate 4096 0)) (take n (replicate 4096 0)) (take (7 * n) (replicate 28672 0)))))
-    → r ≡ ranOf (test 8 bs limit (min 4096 room))
+    → r ≡ ranOf (test bs limit (roomOf (slices (take n (replicate 4096 0)) (take n (replicate 4096 0)) (take n (replicate 4096 0)) (take (7 * n) (replicate 28672 0)))))
+    → r ≡ ranOf (test bs limit (min 4096 room))
 whole bs limit room n r e h =
-    h ∙ ap (λ (k : ℕ). ranOf (test 8 bs limit k))
+    h ∙ ap (λ (k : ℕ). ranOf (test bs limit k))
     (omega (arith, e, front n 4096 (omega arith), front (7 * n) 28672 (omega arith)))
 
 smaller-requires : tie.Need-smaller-requires

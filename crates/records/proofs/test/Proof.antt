@@ -103,7 +103,7 @@ module _ {M : Type 1} (𝓤 : URA M) (H : Heap 𝓤) (A : Atoms 𝓤) (W : Given
 
   -- the outcome, as `run` hands it back, and the row at exit
   abbrev out : Outcome
-  out = rules.test 8 (now t) limit (roomOf ys)
+  out = rules.test (now t) limit (roomOf ys)
 
   abbrev d : Ran
   d = ranOf out
@@ -119,7 +119,7 @@ module _ {M : Type 1} (𝓤 : URA M) (H : Heap 𝓤) (A : Atoms 𝓤) (W : Given
 
   within : (n ≤ length ys) × (n ≤ 4096)
   within =
-      let fits : n ≤ roomOf ys = counted-test 8 (now t) limit (roomOf ys) .sound .fits in
+      let fits : n ≤ roomOf ys = counted-test (now t) limit (roomOf ys) .sound .fits in
       (omega arith, omega arith)
 
   after-is : after ≡ written (out .entries) ys

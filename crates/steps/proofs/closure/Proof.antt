@@ -5,7 +5,8 @@ use Prim.Native.Nat.{ℕ, suc, _≤_, _+_, _*_}
 use borrow.Author.Needs.{needs}
 use native.Mathlib.Omega.{arith}
 use lib.ListN.{length, getD, take, length-map, length-take}
-use Rattle.graph.specs.Rows.{placedFrom, closedFirst, hasCircle, rootGraph}
+use Rattle.graph.specs.Rows.{placedFrom, hasCircle, rootGraph}
+use Rattle.graph.specs.Parts.{closedFirst}
 use Rattle.graph.proofs.Parts.{take-closed, root-closed}
 use Rattle.steps.specs.declared.Task.{Task}
 use Rattle.steps.specs.Step.{closedOver, graphsOf}
