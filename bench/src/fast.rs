@@ -2,9 +2,23 @@
 //! refused, and its entries stand in slices, one for each field. `LEAVE_OUT` says whether the steps of a closure that change nothing
 //! are left out, as the proved library does.
 
-use kusillaqe::{Answer, Report};
-
 const MOST_RIGHT: usize = 7;
+
+#[derive(Clone, Copy, Debug, PartialEq, Eq)]
+pub enum Answer {
+    Noncircular,
+    /// The root's production and its entry numbers.
+    Circular(u16, [u16; MOST_RIGHT]),
+    OutOfSteps,
+    OutOfRoom,
+}
+
+pub struct Report {
+    pub answer: Answer,
+    pub closures: u32,
+    pub entries: usize,
+    pub passes: u16,
+}
 
 pub struct Entries {
     pub symbols: Vec<u16>,
@@ -39,7 +53,6 @@ pub fn run<const LEAVE_OUT: bool>(table: &[u8], limit: u32, entries: &mut Entrie
         entries,
         stored: 0,
         closures: 0,
-        root: [0; MOST_RIGHT],
     };
     let mut passes = 0;
     let answer = loop {
@@ -55,9 +68,8 @@ pub fn run<const LEAVE_OUT: bool>(table: &[u8], limit: u32, entries: &mut Entrie
     Report {
         answer,
         closures: run.closures,
-        entries: run.stored as u16,
+        entries: run.stored,
         passes,
-        root: run.root,
     }
 }
 
@@ -95,7 +107,6 @@ struct Run<'a, const LEAVE_OUT: bool> {
     entries: &'a mut Entries,
     stored: usize,
     closures: u32,
-    root: [u16; MOST_RIGHT],
 }
 
 impl<const LEAVE_OUT: bool> Run<'_, LEAVE_OUT> {
@@ -148,8 +159,7 @@ impl<const LEAVE_OUT: bool> Run<'_, LEAVE_OUT> {
         let mut kids = *kids;
         kids[production.n..].fill(0);
         if nodes.iter().enumerate().any(|(node, row)| row >> node & 1 == 1) {
-            self.root = kids;
-            return Some(Answer::Circular(production.number));
+            return Some(Answer::Circular(production.number, kids));
         }
         let graph = (0..8).fold(0, |graph, a| graph | (nodes[a] & 255) << (8 * a));
         let same = |entry| self.entries.symbols[entry] == production.left && self.entries.graphs[entry] == graph;

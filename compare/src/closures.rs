@@ -1,5 +1,6 @@
 //! Random compound graphs of all sizes: the rows that the library closes against a search from each node.
 
+use kusillaqe::rows;
 use second::random::Random;
 use second::{graph, Edge, Production};
 
@@ -11,20 +12,20 @@ pub fn case(seed: u64) -> Result<(), String> {
     let graphs: Vec<u64> = production.right.iter().map(|_| pairs(&mut random)).collect();
     let occurrences = 1 + graphs.len();
 
-    let mut rows = kusillaqe::own_rows(&records(&production));
+    let mut rows = rows::own_rows(&records(&production));
     for (slot, &graph) in graphs.iter().enumerate() {
-        kusillaqe::place(&mut rows, graph, slot + 1);
+        rows::place(&mut rows, graph, slot + 1);
     }
     let links = graph::compound(&production, &graphs);
     same_rows("compound graph", &rows, &links)?;
 
-    kusillaqe::close(&mut rows, occurrences);
+    rows::close(&mut rows, occurrences);
     let closure = graph::closure(&links);
     same_rows("closure", &rows, &closure.paths)?;
-    if kusillaqe::has_circle(&rows, occurrences) != closure.has_circle() {
+    if rows::has_circle(&rows, occurrences) != closure.has_circle() {
         return Err(format!("circle: {}", closure.has_circle()));
     }
-    if kusillaqe::root_graph(&rows) != closure.root_graph() {
+    if rows::root_graph(&rows) != closure.root_graph() {
         return Err(format!("graph of the root: {}", closure.root_graph()));
     }
     Ok(())
