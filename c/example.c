@@ -1,0 +1,19 @@
+#include "kusillaqe.h"
+#include <stdio.h>
+
+enum { ROOM = 1024 };
+
+static uint8_t table[KUSILLAQE_MOST_BYTES + 1];
+static uint16_t symbols[ROOM], productions[ROOM], kids[KUSILLAQE_MOST_RIGHT * ROOM];
+static uint64_t graphs[ROOM];
+
+int main(void) {
+    size_t length = fread(table, 1, sizeof table, stdin);
+    struct kusillaqe_report report;
+    kusillaqe_test(table, length, 1000000, symbols, ROOM, graphs, ROOM, productions, ROOM, kids, KUSILLAQE_MOST_RIGHT * ROOM, &report);
+    if (report.answer == KUSILLAQE_CIRCULAR)
+        printf("production %u closes a circle, after %u closures\n", report.production, report.closures);
+    else
+        printf("answer %u, after %u closures\n", report.answer, report.closures);
+    return 0;
+}

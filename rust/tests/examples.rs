@@ -1,0 +1,47 @@
+//! The examples that README shows are those that are tested: the one in the wrapper's documentation, and c/example.c.
+
+use std::fs::{File, read_to_string};
+use std::process::Command;
+
+#[test]
+fn in_c() {
+    let program = concat!(env!("CARGO_TARGET_TMPDIR"), "/example");
+    let compiled = Command::new("cc")
+        .args(["-std=c99", "-Wall", "-Wextra", "-Wpedantic", "-Werror", "-I", "../c"])
+        .args(["../c/example.c", "../target/staticlib/libkusillaqe.a", "-o", program])
+        .status()
+        .expect("cargo links by cc");
+    assert!(compiled.success());
+    for (sample, told) in [
+        ("a", "answer 0, after 10 closures\n"),
+        ("b", "production 0 closes a circle, after 3 closures\n"),
+    ] {
+        let table = File::open(format!("../samples/{sample}.table")).expect("the sample is there");
+        let output = Command::new(program).stdin(table).output().expect("it was compiled");
+        assert_eq!(String::from_utf8_lossy(&output.stdout), told);
+    }
+}
+
+#[test]
+fn in_the_readme() {
+    let readme = read_to_string("../README.md").expect("there is a README");
+    let in_c = read_to_string("../c/example.c").expect("there is an example");
+    let wrapper = read_to_string("src/lib.rs").expect("there is a wrapper");
+    let in_rust = wrapper.split("//! ```\n").nth(1).expect("it begins with an example");
+    let in_rust: Vec<&str> = in_rust
+        .lines()
+        .filter(|line| !line.starts_with("//! #"))
+        .map(|line| line.trim_start_matches("//!").strip_prefix(' ').unwrap_or(""))
+        .collect();
+    // The wrapper's examples are run in its folder, README's in the folder above.
+    let in_rust = in_rust.join("\n").replace("../samples", "samples");
+    for example in [in_rust, in_c] {
+        assert!(readme.contains(&indented(&example)), "README does not show\n{example}");
+    }
+}
+
+fn indented(text: &str) -> String {
+    text.lines()
+        .map(|line| format!("    {line}").trim_end().to_string() + "\n")
+        .collect()
+}
