@@ -1,20 +1,19 @@
 -- What an evaluator does on a complete tree of a well-formed grammar. Assumes nothing.
 use mathlib.Core.Bool.{Bool, true, false, true≢false}
 use mathlib.Core.List.{List, [], _∷_, List·Memᴰ, List·Memᴰ·head, List·Memᴰ·tail, List·Memᴰ·not-nil}
-use mathlib.Core.Logic.{_⊎_, inl, inr, ⊎-map}
-use mathlib.Core.Path.{_≡_, refl, sym, _∙_}
+use mathlib.Core.Logic.{_⊎_, inl, inr, ⊎-elim, ⊎-map}
+use mathlib.Core.Path.{_≡_, refl, sym, _∙_, ap}
 use Prim.Native.Nat.{ℕ, zero, suc, _+_, _≤_, _<_}
 use native.Mathlib.Omega.{arith}
-use lib.ListN.{length}
 use Rattle.numbers.specs.Paths.{Plus, Circle}
 use Rattle.grammar.specs.Grammar.{Grammar}
 use Rattle.trees.specs.Tree.{Tree, Complete, Instance, here, under, sameInstance, instances, TreeEdge, WellFormed}
-use Rattle.trees.specs.Evaluator.{Computed, taken, left, start, take, given, MayTake, StandsStill, Reached, Evaluator}
+use Rattle.trees.specs.Evaluator.{Computed, left, given, notGiven, MayTake, StandsStill, Reached, Position, Choice, Evaluator, onward, play}
 use Rattle.numbers.proofs.Members.{at-cons}
 use Rattle.trees.proofs.Paths.{first-edge, before}
 use Rattle.trees.proofs.Values.{source-there, given-free, find, Search}
 use Rattle.trees.proofs.Exactly.{once}
-use Rattle.trees.proofs.Runs.{left-le, left-none, left-taken, blocked, counted, something-ready}
+use Rattle.trees.proofs.Runs.{left-none, none-left, blocked, counted, something-ready}
 
 by-true : (b : Bool) → (¬ (b ≡ false)) → b ≡ true
 by-true true h = refl
@@ -26,13 +25,9 @@ by-false false h = refl
 
 -- ---- every run ends
 module _ (g : Grammar) (t : Tree) where
-  -- each taking leaves one value less
-  pub takings : {n : ℕ} {d : Computed Instance} → Reached g t n d → n + left d (instances g t) ≡ left (given g t) (instances g t)
+  -- each taking leaves one value less; so a run has at most as many takings as there are values that are not given
+  pub takings : {n : ℕ} {d : Computed Instance} → Reached g t n d → n + left d (instances g t) ≡ notGiven g t
   takings r = counted sameInstance (TreeEdge g t) (instances g t) (once g t) r
-
-  -- so a run has at most as many takings as there are values
-  pub run-ends : {n : ℕ} {d : Computed Instance} → Reached g t n d → n ≤ length (instances g t)
-  run-ends r = omega (arith, takings r, left-le (given g t) (instances g t))
 
   -- ---- there is an evaluator: whether anything may be taken can be told
   ready? : (c : Computed Instance) (y : Instance) → List·Memᴰ y (instances g t) → MayTake g t c y ⊎ (¬ MayTake g t c y)
@@ -57,31 +52,44 @@ module _ (g : Grammar) (t : Tree) where
       by (inr n) (inl r) = inl r
       by (inr n) (inr f) = inr (λ z. at-cons (λ x. ¬ MayTake g t c x) n (f z))
 
-  pub told : (c : Computed Instance) → ((y : Instance) × MayTake g t c y) ⊎ StandsStill g t c
-  told c = ⊎-map (λ s. s) (λ f s. f (s .0) (s .1 .among) (s .1)) (any-ready c (instances g t) (λ y m. m))
-
   pub evaluator : Evaluator g t
-  evaluator n d r = told d
+  evaluator p =
+      ⊎-map (λ s. s) (λ f s. f (s .0) (s .1 .among) (s .1)) (any-ready (p .computed) (instances g t) (λ y m. m))
 
-  -- ---- the run of an evaluator, to where it stands still
-  abbrev Stood : Type 0
-  Stood = (n : ℕ) × (d : Computed Instance) × Reached g t n d × StandsStill g t d
+  -- ---- the own play of an evaluator
+  module _ (ev : Evaluator g t) where
+    -- it takes a value at each turn, unless it stands still
+    pub takes-or-still : (k : ℕ) → (play g t ev k .takings ≡ k) ⊎ StandsStill g t (play g t ev k .computed)
+    unfolding play
+    takes-or-still zero = inl refl
+    takes-or-still (suc k) = by (play g t ev k) (ev (play g t ev k)) (takes-or-still k)
+      where
+        by :
+            (p : Position g t) (c : Choice g t (p .computed)) → (p .takings ≡ k) ⊎ StandsStill g t (p .computed)
+            → (onward g t p c .takings ≡ suc k) ⊎ StandsStill g t (onward g t p c .computed)
+        by p (inl (y, q)) (inl e) = inl (ap suc e)
+        by p (inl (y, q)) (inr s) = absurd (s (y, q))
+        by p (inr s) r = inr s
 
-  one-more :
-      (k n : ℕ) (d : Computed Instance) → Reached g t n d → left d (instances g t) ≤ k
-      → ((y : Instance) × MayTake g t d y) ⊎ StandsStill g t d
-      → ((e : Computed Instance) → Reached g t (suc n) e → left e (instances g t) < k → Stood)
-      → Stood
-  one-more k n d r l (inl (y, q)) more =
-      more (taken sameInstance d y) (take r y q) (omega (arith, left-taken sameInstance d y (q .uncomputed) (instances g t) (once g t) (q .among)))
-  one-more k n d r l (inr s) more = (n, d, r, s)
+    -- and one value at the most
+    pub no-faster : (k : ℕ) → play g t ev k .takings ≤ k
+    unfolding play
+    no-faster zero = omega arith
+    no-faster (suc k) = by (play g t ev k) (ev (play g t ev k)) (no-faster k)
+      where
+        by : (p : Position g t) (c : Choice g t (p .computed)) → p .takings ≤ k → onward g t p c .takings ≤ suc k
+        by p (inl (y, q)) l = omega arith
+        by p (inr s) l = omega arith
 
-  stood-from : Evaluator g t → (k n : ℕ) (d : Computed Instance) → Reached g t n d → left d (instances g t) ≤ k → Stood
-  stood-from f zero n d r l = one-more zero n d r l (f n d r) (λ e q h. absurd (omega arith))
-  stood-from f (suc k) n d r l = one-more (suc k) n d r l (f n d r) (λ e q h. stood-from f k (suc n) e q (omega arith))
+    -- after as many turns as there are values that are not given it stands still
+    pub stops : StandsStill g t (play g t ev (notGiven g t) .computed)
+    stops = ⊎-elim (λ e. all-taken (omega (arith, e, takings (p .way)))) (λ s. s) (takes-or-still (notGiven g t))
+      where
+        p : Position g t
+        p = play g t ev (notGiven g t)
 
-  pub stood : Evaluator g t → (n : ℕ) × (d : Computed Instance) × Reached g t n d × StandsStill g t d
-  stood f = stood-from f (length (instances g t)) 0 (given g t) start (left-le (given g t) (instances g t))
+        all-taken : left (p .computed) (instances g t) ≡ 0 → StandsStill g t (p .computed)
+        all-taken e (y, q) = true≢false (sym (none-left (p .computed) (instances g t) e y (q .among)) ∙ q .uncomputed)
 
 module _ (g : Grammar) (formed : WellFormed g) (Part : ℕ → Type 0) (t : Tree) (complete : Complete g Part t) where
   -- ---- a tree with no circle
@@ -93,14 +101,19 @@ module _ (g : Grammar) (formed : WellFormed g) (Part : ℕ → Type 0) (t : Tree
       → (z : Instance) × MayTake g t c z
   never-still h c = something-ready (TreeEdge g t) (instances g t) c h (source-there g formed Part t complete) (find g t c)
 
-  -- so a run that stands still has computed everything, after as many takings as there are values that are not given
+  -- so a run that stands still has taken all that is not given, and computed everything
   pub all-computed :
       ¬ Circle (TreeEdge g t)
       → {n : ℕ} {d : Computed Instance} → Reached g t n d → StandsStill g t d
-      → ((y : Instance) → List·Memᴰ y (instances g t) → d y ≡ true) × (n ≡ left (given g t) (instances g t))
+      → (n ≡ notGiven g t) × ((y : Instance) → List·Memᴰ y (instances g t) → d y ≡ true)
   all-computed h {n} {d} r s =
       let f : (y : Instance) → List·Memᴰ y (instances g t) → d y ≡ true = λ y m. by-true (d y) (λ e. s (never-still h d y m e)) in
-      (f, omega (arith, takings g t r, left-none d (instances g t) f))
+      (omega (arith, takings g t r, left-none d (instances g t) f), f)
+
+  -- the own play of an evaluator takes a value at each turn, until all that is not given is taken
+  pub takes : ¬ Circle (TreeEdge g t) → (ev : Evaluator g t) (k : ℕ) → k ≤ notGiven g t → play g t ev k .takings ≡ k
+  takes h ev k l =
+      ⊎-elim (λ e. e) (λ s. omega (arith, no-faster g t ev k, all-computed h (play g t ev k .way) s .0)) (takes-or-still g t ev k)
 
   -- ---- a tree with a circle
 
@@ -115,3 +128,13 @@ module _ (g : Grammar) (formed : WellFormed g) (Part : ℕ → Type 0) (t : Tree
   left-over r x p =
       let e = first-edge p in
       (source-there g formed Part t complete x (e .0) (e .1), blocked sameInstance (TreeEdge g t) (instances g t) not-given r x p)
+
+  -- so a run takes less than what is not given
+  pub fewer : Circle (TreeEdge g t) → {n : ℕ} {d : Computed Instance} → Reached g t n d → n < notGiven g t
+  fewer (x, p) {n} {d} r = by (left d (instances g t)) refl (takings g t r)
+    where
+      by : (k : ℕ) → left d (instances g t) ≡ k → n + k ≡ notGiven g t → n < notGiven g t
+      by zero e f =
+          let y = left-over r x p in
+          absurd (true≢false (sym (none-left d (instances g t) e x (y .0)) ∙ y .1))
+      by (suc k) e f = omega arith

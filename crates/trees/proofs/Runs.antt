@@ -10,6 +10,7 @@ use lib.ListN.{length}
 use Rattle.numbers.specs.Lists.{Distinct}
 use Rattle.numbers.specs.Paths.{Plus, one, Circle}
 use Rattle.trees.specs.Evaluator.{Computed, trueIf, taken, oneUnless, left, Ready, Run, start, take}
+use Rattle.numbers.proofs.Members.{at-cons}
 use Rattle.trees.proofs.Lists.{Without, without}
 use Rattle.trees.proofs.Paths.{Star, stay, go, plus-star, before}
 
@@ -17,17 +18,17 @@ oneUnless-suc : (b : Bool) (n : ℕ) → oneUnless b (suc n) ≡ suc (oneUnless 
 oneUnless-suc true n = refl
 oneUnless-suc false n = refl
 
-oneUnless-le : (b : Bool) {n m : ℕ} → n ≤ m → oneUnless b n ≤ suc m
-oneUnless-le true l = omega arith
-oneUnless-le false l = omega arith
-
-pub left-le : {A : Type 0} (c : Computed A) (l : List A) → left c l ≤ length l
-left-le c [] = omega arith
-left-le c (x ∷ l) = oneUnless-le (c x) (left-le c l)
-
 pub left-none : {A : Type 0} (c : Computed A) (l : List A) → ((x : A) → List·Memᴰ x l → c x ≡ true) → left c l ≡ 0
 left-none c [] h = refl
 left-none c (x ∷ l) h = rw (h x (List·Memᴰ·head refl)) (left-none c l (λ y m. h y (List·Memᴰ·tail m)))
+
+pub none-left : {A : Type 0} (c : Computed A) (l : List A) → left c l ≡ 0 → (x : A) → List·Memᴰ x l → c x ≡ true
+none-left c [] e x m = absurd (List·Memᴰ·not-nil m)
+none-left {A} c (y ∷ l) e x m = by (c y) refl e (λ f. none-left c l f x)
+  where
+    by : (b : Bool) → c y ≡ b → oneUnless b (left c l) ≡ 0 → (left c l ≡ 0 → List·Memᴰ x l → c x ≡ true) → c x ≡ true
+    by true h f rest = at-cons (λ (z : A). c z ≡ true) h (rest f) m
+    by false h f rest = absurd (omega arith)
 
 -- ---- a taking
 

@@ -1,9 +1,10 @@
--- Evaluators: which values are computed, what may be taken next, runs in any order, and what it is to stand still. Assumes nothing.
+-- Evaluators: which values are computed, what may be taken next, runs in any order, what it is to stand still, and where an evaluator
+-- comes by its own choices. Assumes nothing.
 use mathlib.Core.Bool.{Bool, true, false}
 use mathlib.Core.List.{List, [], _∷_, List·Memᴰ}
-use mathlib.Core.Logic.{_⊎_}
+use mathlib.Core.Logic.{_⊎_, inl, inr}
 use mathlib.Core.Path.{_≡_}
-use Prim.Native.Nat.{ℕ, suc}
+use Prim.Native.Nat.{ℕ, zero, suc}
 use lib.Dec.{eqb}
 use Rattle.numbers.specs.Number.{bit}
 use Rattle.grammar.specs.Grammar.{Grammar, symbol}
@@ -55,6 +56,10 @@ module _ (g : Grammar) (t : Tree) where
   given (here a) = eqb (bit a (symbol g (rootSymbol g t) .mask)) 1
   given (under i x) = false
 
+  -- how many values are not given
+  abbrev pub notGiven : ℕ
+  notGiven = left given (instances g t)
+
   abbrev pub MayTake : Computed Instance → Instance → Type 0
   MayTake = Ready (TreeEdge g t) (instances g t)
 
@@ -65,6 +70,27 @@ module _ (g : Grammar) (t : Tree) where
   abbrev pub Reached : ℕ → Computed Instance → Type 0
   Reached = Run sameInstance (TreeEdge g t) (instances g t) given
 
-  -- an evaluator names, whatever it has reached, a value that may be taken, unless there is none
+  -- where one may be: after how many takings, what is computed then, and by which takings
+  pub record Position : Type 0 where
+    pub takings : ℕ
+    pub computed : Computed Instance
+    pub way : Reached takings computed
+
+  -- what is done next: a value is taken that may be taken, or there is none
+  abbrev pub Choice : Computed Instance → Type 0
+  Choice c = ((y : Instance) × MayTake c y) ⊎ StandsStill c
+
+  -- an evaluator names, wherever it may be, a value that may be taken, unless there is none
   abbrev pub Evaluator : Type 0
-  Evaluator = (n : ℕ) (d : Computed Instance) → Reached n d → ((y : Instance) × MayTake d y) ⊎ StandsStill d
+  Evaluator = (p : Position) → Choice (p .computed)
+
+  -- after what was named is taken
+  abbrev pub onward : (p : Position) → Choice (p .computed) → Position
+  onward p (inl (y, q)) =
+      record { takings = suc (p .takings); computed = taken sameInstance (p .computed) y; way = take (p .way) y q }
+  onward p (inr still) = p
+
+  -- where an evaluator comes by its own choices in k turns: it begins with the given values, and goes on by the value that it names
+  unfoldable pub play : Evaluator → ℕ → Position
+  play ev zero = record { takings = 0; computed = given; way = start }
+  play ev (suc k) = onward (play ev k) (ev (play ev k))

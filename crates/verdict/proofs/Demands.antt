@@ -7,12 +7,14 @@ use Prim.Native.Nat.{ℕ, zero, suc, _^_, _<_}
 use native.Mathlib.Omega.{arith}
 use lib.Dec.{eqb, eqb·suc-zero}
 use lib.ListN.{length}
+use Rattle.grammar.specs.Grammar.{Grammar}
 use Rattle.grammar.specs.Table.{grammarOf}
 use Rattle.grammar.specs.Rules.{Breaks}
 use Rattle.grammar.specs.Refusal.{refusal}
 use Rattle.grammar.proofs.Refused as rules-shown
-use Rattle.trees.specs.Tree.{InTable}
+use Rattle.trees.specs.Tree.{Tree, InTable, WellFormed}
 use Rattle.trees.specs.Compound.{NumberHolds}
+use Rattle.trees.specs.Evaluator.{Evaluator}
 use Rattle.trees.specs.Record as record-of-trees
 use Rattle.trees.specs.Record.{OfTree}
 use Rattle.trees.proofs.Saturation.{none-circular}
@@ -24,7 +26,7 @@ use Rattle.rules.specs.Test.{systemIn, byNumber, test}
 use Rattle.orders.specs.Answers as runs
 use Rattle.orders.specs.Stored.{In}
 use Rattle.orders.proofs.Answers as runs-shown
-use Rattle.verdict.specs.Demands.{back, said, answer, NoRuleBroken, told, shownTree, TreePair, RefusedExactlyAlways, CircularShownAlways, NoncircularNoneAlways, StepsExactly, StepsExactlyAlways, RoomExactly, RoomExactlyAlways, RoomCounts, RoomCountsAlways, NeverStillAlways, StandsStillLeftAlways, PassesFollowed}
+use Rattle.verdict.specs.Demands.{back, said, answer, NoRuleBroken, HasCircle, told, shownTree, TreePair, RefusedExactlyAlways, CircularShown, CircularShownAlways, NoncircularNoneAlways, StepsExactly, StepsExactlyAlways, RoomExactly, RoomExactlyAlways, RoomCounts, RoomCountsAlways, playEnd, Finishes, NeverStillAlways, GetsStuck, StandsStillLeftAlways, PassesFollowed}
 use Rattle.verdict.proofs.Obeys.{obeys}
 use Rattle.verdict.proofs.Trees.{earlier, again, root-complete, root-circle, root-earlier, saturated}
 use Rattle.verdict.proofs.Room.{stored-once, stored-pairs, pairs-stored, no-more, one-more}
@@ -262,30 +264,60 @@ room-counts bs limit R unbroken calm enough = go (answer bs limit R) refl (s .sa
 
 -- ---- demand 3
 pub never-still : NeverStillAlways back
-never-still bs limit room h t w =
-    let good = not-refused bs limit room Noncircular h (λ e. omega arith) in
-    let none = noncircular-none bs limit room h t w in
-    record {
-      goes-on = evaluators.never-still (grammarOf bs) (obeys bs good .0) (InTable (grammarOf bs)) t w none;
-      all-computed = λ {n} {d} r s. evaluators.all-computed (grammarOf bs) (obeys bs good .0) (InTable (grammarOf bs)) t w none r s .0;
-      counts = λ {n} {d} r. evaluators.takings (grammarOf bs) t r;
-      ends = λ {n} {d} r s. evaluators.all-computed (grammarOf bs) (obeys bs good .0) (InTable (grammarOf bs)) t w none r s .1;
+never-still bs limit room h t w = record {
+  some = evaluators.evaluator g t;
+  each = λ ev. finishes _;
+  goes-on = λ c. evaluators.never-still g formed (InTable g) t w none _;
+  counts = λ {n} {d} r. evaluators.takings g t r;
+  all-computed = λ {n} {d} r s. evaluators.all-computed g formed (InTable g) t w none r s;
+}
+  where
+    g : Grammar
+    g = grammarOf bs
+
+    formed : WellFormed (grammarOf bs)
+    formed = obeys bs (not-refused bs limit room Noncircular h (λ e. omega arith)) .0
+
+    none : ¬ HasCircle bs t
+    none = noncircular-none bs limit room h t w
+
+    finishes : (ev : Evaluator (grammarOf bs) t) → Finishes bs t ev
+    finishes ev = record {
+      takes = evaluators.takes g formed (InTable g) t w none ev;
+      stops = evaluators.stops g t ev;
+      computes = evaluators.all-computed g formed (InTable g) t w none (playEnd bs t ev .way) (evaluators.stops g t ev) .1;
     }
 
 pub stands-still : StandsStillLeftAlways back
-stands-still bs limit room p h =
-    let good = not-refused bs limit room (Circular p) h (λ e. omega arith) in
-    let c = circular-shown bs limit room p h in
-    let t = shownTree bs (back bs limit room) p in
-    record {
-      left-over = λ {n} {d} r.
-          let x = c .circle in
-          let y = evaluators.left-over (grammarOf bs) (obeys bs good .0) (InTable (grammarOf bs)) t (c .complete) r (x .0) (x .1) in
-          (x .0, y .0, y .1);
-      stands = evaluators.stood (grammarOf bs) t;
-      ends = λ {n} {d} r. evaluators.run-ends (grammarOf bs) t r;
-      some = evaluators.evaluator (grammarOf bs) t;
-    }
+stands-still bs limit room p h = record {
+  some = evaluators.evaluator g t;
+  each = λ ev. stuck _;
+  fewer = λ {n} {d} r. evaluators.fewer g formed (InTable g) t (c .complete) (c .circle) r;
+  left-over = λ {n} {d} r. evaluators.left-over g formed (InTable g) t (c .complete) r;
+}
+  where
+    g : Grammar
+    g = grammarOf bs
+
+    formed : WellFormed (grammarOf bs)
+    formed = obeys bs (not-refused bs limit room (Circular p) h (λ e. omega arith)) .0
+
+    t : Tree
+    t = shownTree bs (back bs limit room) p
+
+    c : CircularShown bs p (back bs limit room)
+    c = circular-shown bs limit room p h
+
+    stuck : (ev : Evaluator (grammarOf bs) t) → GetsStuck bs t ev
+    stuck ev =
+        let left = evaluators.left-over g formed (InTable g) t (c .complete) (playEnd bs t ev .way) in
+        let y = left (c .circle .0) (c .circle .1) in
+        record {
+          stops = evaluators.stops g t ev;
+          early = evaluators.fewer g formed (InTable g) t (c .complete) (c .circle) (playEnd bs t ev .way);
+          circles-left = left;
+          one-left = (c .circle .0, y .0, y .1);
+        }
 
 -- ---- the rules themselves
 pub passes-followed : PassesFollowed back

@@ -7,6 +7,7 @@ use lib.ListN.{length, take, set}
 use Rattle.grammar.specs.Table.{grammarOf}
 use Rattle.grammar.specs.Rules.{Breaks}
 use Rattle.trees.specs.Tree.{node, nil, cons}
+use Rattle.trees.specs.Evaluator.{notGiven, Evaluator, play}
 use Rattle.trees.specs.Small.{grammarA, grammarB, grammarC}
 use Rattle.rules.specs.declared.Answer.the-variants.{Noncircular, Circular, Refused, OutOfSteps, OutOfRoom}
 use Rattle.rules.specs.Opened.{opened}
@@ -91,6 +92,20 @@ tree-A = (omega arith, (refl, (omega arith, tt), tt))
 
 goes-on-A : NeverStill tableA (node 0 (cons (node 1 nil) nil))
 goes-on-A = never-still tableA 10 3 noncircular-A (node 0 (cons (node 1 nil) nil)) tree-A
+
+-- it has four values and none is given; where the symbol 1 is at the root, its two inherited values are
+not-given-A : notGiven (grammarOf tableA) (node 0 (cons (node 1 nil) nil)) ≡ 4
+unfolding opened tableA
+not-given-A = refl
+
+not-given-leaf-A : notGiven (grammarOf tableA) (node 1 nil) ≡ 2
+unfolding opened tableA
+not-given-leaf-A = refl
+
+-- so each evaluator has taken all four after four turns, and not earlier
+four-A : (ev : Evaluator (grammarOf tableA) (node 0 (cons (node 1 nil) nil)))
+    → play (grammarOf tableA) (node 0 (cons (node 1 nil) nil)) ev 4 .takings ≡ 4
+four-A ev = goes-on-A .each ev .takes 4 (omega (arith, not-given-A))
 
 -- ---- demands 2 and 3 at B: the shown tree, its circle, and evaluators on it
 pub circular-B : answer tableB 3 2 ≡ Circular 0

@@ -4,12 +4,15 @@ use mathlib.Core.Bool.{true≢false}
 use Prim.Native.Nat.{ℕ}
 use native.Mathlib.Omega.{arith}
 use lib.ListN.{length}
+use Rattle.grammar.specs.Table.{grammarOf}
+use Rattle.trees.specs.Tree.{Tree}
+use Rattle.trees.specs.Evaluator.{Evaluator}
 use Rattle.rules.specs.declared.Answer.{Answer}
 use Rattle.rules.specs.declared.Answer.the-variants.{Noncircular, Circular, Refused, OutOfSteps, OutOfRoom}
 use Rattle.rules.specs.Passes.{Outcome, outcome, noRoot, empty}
 use Rattle.rules.specs.Opened.{opened}
 use Rattle.rules.specs.Small.{tableA, tableB}
-use Rattle.verdict.specs.Demands.{Version, back, said, shownTree, CircularShown, RefusedExactlyAlways, CircularShownAlways, NoncircularNone, NoncircularNoneAlways, StepsExactlyAlways, RoomExactlyAlways, RoomCountsAlways, NeverStill, NeverStillAlways, PassesFollowed}
+use Rattle.verdict.specs.Demands.{Version, back, said, shownTree, CircularShown, RefusedExactlyAlways, CircularShownAlways, NoncircularNone, NoncircularNoneAlways, StepsExactlyAlways, RoomExactlyAlways, RoomCountsAlways, Finishes, NeverStill, NeverStillAlways, PassesFollowed}
 use Rattle.verdict.specs.Wrong.{RefusesEvery, AlwaysOutOfSteps, AlwaysOutOfRoom, AlwaysNoncircular, AlwaysCircular, StoresNothing, BeginsOnePass, onePass, AlwaysCounts, constantly}
 use Rattle.verdict.proofs.Demands.{circular-shown}
 use Rattle.verdict.proofs.Examples.{unbroken-A, none-A, closures-A, entries-A, not-three, circular-B, still-B, closures-B, entries-B}
@@ -48,23 +51,35 @@ always-out-of-room-counts v demand wrong =
     not-three
     (demand tableA 10 3 unbroken-A none-A (λ e. let z : _≡_ {A = ℕ} 0 1 = cc in omega arith) .exactly .0 w)
 
--- ---- demands 2 and 3 at B: a tree has a circle, and on it an evaluator stands still with a value left over
-pub some-B : ¬ NoncircularNone tableB
-some-B none = let c = circular-shown tableB 3 2 0 circular-B in none (shownTree tableB (back tableB 3 2) 0) (c .complete) (c .circle)
+-- ---- demands 2 and 3 at B: a tree has a circle, and on it each evaluator stands still with a value left over
+abbrev treeB : Tree
+treeB = shownTree tableB (back tableB 3 2) 0
 
-pub still-early-B : ¬ NeverStill tableB (shownTree tableB (back tableB 3 2) 0)
+pub some-B : ¬ NoncircularNone tableB
+some-B none = let c = circular-shown tableB 3 2 0 circular-B in none treeB (c .complete) (c .circle)
+
+pub none-finishes-B : (ev : Evaluator (grammarOf tableB) treeB) → ¬ Finishes tableB treeB ev
+none-finishes-B ev finishes =
+    let y = still-B .each ev .one-left in
+    true≢false (sym (finishes .computes (y .0) (y .1)) ∙ y .2)
+
+-- the demand is of each evaluator: any one shows that it is not met
+pub each-asked-B : (ev : Evaluator (grammarOf tableB) treeB) → ¬ NeverStill tableB treeB
+each-asked-B ev never = none-finishes-B ev (never .each ev)
+
+-- it is of every state: where one stands still with a value left over, there is no way on
+pub still-early-B : ¬ NeverStill tableB treeB
 still-early-B never =
-    let s = still-B .stands (still-B .some) in
-    let y = still-B .left-over (s .2) in
-    true≢false (sym (never .all-computed (s .2) (s .3) (y .0) (y .1)) ∙ y .2)
+    let stuck = still-B .each (still-B .some) in
+    let y = stuck .one-left in
+    stuck .stops (never .goes-on _ (y .0) (y .1) (y .2))
 
 pub always-noncircular : (v : Version) → NoncircularNoneAlways v → ¬ AlwaysNoncircular v
 always-noncircular v demand wrong = some-B (demand tableB 3 2 (wrong tableB 3 2))
 
 pub always-noncircular-still : (v : Version) → NeverStillAlways v → ¬ AlwaysNoncircular v
 always-noncircular-still v demand wrong =
-    still-early-B
-    (demand tableB 3 2 (wrong tableB 3 2) (shownTree tableB (back tableB 3 2) 0) (circular-shown tableB 3 2 0 circular-B .complete))
+    still-early-B (demand tableB 3 2 (wrong tableB 3 2) treeB (circular-shown tableB 3 2 0 circular-B .complete))
 
 -- ---- demand 2 at A: no outcome shows a tree with a circle
 pub no-tree-A : (p : ℕ) (o : Outcome) → ¬ CircularShown tableA p o

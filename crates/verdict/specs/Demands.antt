@@ -8,13 +8,13 @@ use mathlib.Core.Path.{_≡_}
 use Prim.Native.Nat.{ℕ, _+_, _^_, _≤_, _<_}
 use lib.ListN.{length, take}
 use Rattle.numbers.specs.Lists.{Distinct}
-use Rattle.numbers.specs.Paths.{Circle}
+use Rattle.numbers.specs.Paths.{Plus, Circle}
 use Rattle.grammar.specs.Grammar.{Grammar, production, rights}
 use Rattle.grammar.specs.Table.{grammarOf}
 use Rattle.grammar.specs.Rules.{Breaks}
 use Rattle.trees.specs.Tree.{Tree, Instance, Complete, InTable, TreeEdge, instances}
 use Rattle.trees.specs.Compound.{NumberHolds}
-use Rattle.trees.specs.Evaluator.{Computed, left, given, MayTake, StandsStill, Reached, Evaluator}
+use Rattle.trees.specs.Evaluator.{Computed, left, notGiven, MayTake, StandsStill, Reached, Position, Evaluator, play}
 use Rattle.trees.specs.Record as record-of-trees
 use Rattle.trees.specs.Record.{shownEntry, shown, pairs, OfTree}
 use Rattle.rules.specs.declared.Answer.{Answer}
@@ -48,6 +48,10 @@ TreeOf bs = Complete (grammarOf bs) (InTable (grammarOf bs))
 
 abbrev pub HasCircle : List ℕ → Tree → Type 0
 HasCircle bs t = Circle (TreeEdge (grammarOf bs) t)
+
+-- a path of one or more edges leads from y back to y
+abbrev pub OnCircle : List ℕ → Tree → Instance → Type 0
+OnCircle bs t y = Plus (TreeEdge (grammarOf bs) t) y y
 
 -- of seven slots, those that count: one for each right symbol
 abbrev pub kidsOf : Grammar → ℕ → List ℕ → List ℕ
@@ -148,38 +152,57 @@ RoomCountsAlways v =
     (bs : List ℕ) (limit R : ℕ) → NoRuleBroken bs → NoncircularNone bs → ¬ (said (v bs limit R) ≡ OutOfSteps)
     → RoomCounts bs R (v bs limit R)
 
--- ---- demand 3: evaluators, on a tree t
+-- ---- demand 3: evaluators, on a tree t whose root has its inherited values given
+module _ (bs : List ℕ) (t : Tree) where
+  -- y is a value of t
+  abbrev pub ValueOf : Instance → Type 0
+  ValueOf y = List·Memᴰ y (instances (grammarOf bs) t)
 
--- in whatever state it is, a value that is left over has company: some value may be taken; so who stands still has computed all
-pub record NeverStill (bs : List ℕ) (t : Tree) : Type 0 where
-  pub goes-on :
-      (c : Computed Instance) (y : Instance) → List·Memᴰ y (instances (grammarOf bs) t) → c y ≡ false
-      → (z : Instance) × MayTake (grammarOf bs) t c z
-  pub all-computed :
-      {n : ℕ} {d : Computed Instance} → Reached (grammarOf bs) t n d → StandsStill (grammarOf bs) t d
-      → (y : Instance) → List·Memᴰ y (instances (grammarOf bs) t) → d y ≡ true
-  -- each taking leaves one value less; so it ends, after as many takings as there are values that were not given
-  pub counts :
-      {n : ℕ} {d : Computed Instance} → Reached (grammarOf bs) t n d
-      → n + left d (instances (grammarOf bs) t) ≡ left (given (grammarOf bs) t) (instances (grammarOf bs) t)
-  pub ends :
-      {n : ℕ} {d : Computed Instance} → Reached (grammarOf bs) t n d → StandsStill (grammarOf bs) t d
-      → n ≡ left (given (grammarOf bs) t) (instances (grammarOf bs) t)
+  -- where an evaluator comes by its own choices in as many turns as there are values not given
+  abbrev pub playEnd : Evaluator (grammarOf bs) t → Position (grammarOf bs) t
+  playEnd ev = play (grammarOf bs) t ev (notGiven (grammarOf bs) t)
+
+  -- by its own choices it takes a value at each turn, and stands still when all that is not given is taken: every value is computed
+  pub record Finishes (ev : Evaluator (grammarOf bs) t) : Type 0 where
+    pub takes : (k : ℕ) → k ≤ notGiven (grammarOf bs) t → play (grammarOf bs) t ev k .takings ≡ k
+    pub stops : StandsStill (grammarOf bs) t (playEnd ev .computed)
+    pub computes : (y : Instance) → ValueOf y → playEnd ev .computed y ≡ true
+
+  pub record NeverStill : Type 0 where
+    -- there is an evaluator, and each one finishes
+    pub some : Evaluator (grammarOf bs) t
+    pub each : (ev : Evaluator (grammarOf bs) t) → Finishes ev
+    -- whatever is computed: where a value is left over, some value may be taken
+    pub goes-on : (c : Computed Instance) (y : Instance) → ValueOf y → c y ≡ false → (z : Instance) × MayTake (grammarOf bs) t c z
+    -- whoever takes in any order: each taking leaves one value less, and where nothing may be taken all is computed
+    pub counts :
+        {n : ℕ} {d : Computed Instance} → Reached (grammarOf bs) t n d
+        → n + left d (instances (grammarOf bs) t) ≡ notGiven (grammarOf bs) t
+    pub all-computed :
+        {n : ℕ} {d : Computed Instance} → Reached (grammarOf bs) t n d → StandsStill (grammarOf bs) t d
+        → (n ≡ notGiven (grammarOf bs) t) × ((y : Instance) → ValueOf y → d y ≡ true)
+
+  -- by its own choices it comes to stand still before all that is not given is taken: each value on a circle is left over, and one there is
+  pub record GetsStuck (ev : Evaluator (grammarOf bs) t) : Type 0 where
+    pub stops : StandsStill (grammarOf bs) t (playEnd ev .computed)
+    pub early : playEnd ev .takings < notGiven (grammarOf bs) t
+    pub circles-left : (y : Instance) → OnCircle bs t y → ValueOf y × (playEnd ev .computed y ≡ false)
+    pub one-left : (y : Instance) × ValueOf y × (playEnd ev .computed y ≡ false)
+
+  pub record StandsStillLeft : Type 0 where
+    -- there is an evaluator, and each one gets stuck
+    pub some : Evaluator (grammarOf bs) t
+    pub each : (ev : Evaluator (grammarOf bs) t) → GetsStuck ev
+    -- whoever takes in any order: fewer values are taken than are not given, and each value on a circle is left over
+    pub fewer : {n : ℕ} {d : Computed Instance} → Reached (grammarOf bs) t n d → n < notGiven (grammarOf bs) t
+    pub left-over :
+        {n : ℕ} {d : Computed Instance} → Reached (grammarOf bs) t n d
+        → (y : Instance) → OnCircle bs t y → ValueOf y × (d y ≡ false)
 
 -- after noncircular: on any tree
 abbrev pub NeverStillAlways : Version → Type 0
 NeverStillAlways v =
     (bs : List ℕ) (limit room : ℕ) → said (v bs limit room) ≡ Noncircular → (t : Tree) → TreeOf bs t → NeverStill bs t
-
--- whatever an evaluator has reached, a value is left over, and it comes to stand still; and there is an evaluator
-pub record StandsStillLeft (bs : List ℕ) (t : Tree) : Type 0 where
-  pub left-over :
-      {n : ℕ} {d : Computed Instance} → Reached (grammarOf bs) t n d
-      → (y : Instance) × List·Memᴰ y (instances (grammarOf bs) t) × (d y ≡ false)
-  pub stands :
-      Evaluator (grammarOf bs) t → (n : ℕ) × (d : Computed Instance) × Reached (grammarOf bs) t n d × StandsStill (grammarOf bs) t d
-  pub ends : {n : ℕ} {d : Computed Instance} → Reached (grammarOf bs) t n d → n ≤ length (instances (grammarOf bs) t)
-  pub some : Evaluator (grammarOf bs) t
 
 -- after circular: on the shown tree
 abbrev pub StandsStillLeftAlways : Version → Type 0
