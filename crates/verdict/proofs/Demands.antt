@@ -26,7 +26,7 @@ use Rattle.rules.specs.Test.{systemIn, byNumber, test}
 use Rattle.orders.specs.Answers as runs
 use Rattle.orders.specs.Stored.{In}
 use Rattle.orders.proofs.Answers as runs-shown
-use Rattle.verdict.specs.Demands.{back, said, answer, NoRuleBroken, HasCircle, told, shownTree, TreePair, RefusedExactlyAlways, CircularShown, CircularShownAlways, NoncircularNoneAlways, StepsExactly, StepsExactlyAlways, RoomExactly, RoomExactlyAlways, RoomCounts, RoomCountsAlways, playEnd, Finishes, NeverStillAlways, GetsStuck, StandsStillLeftAlways, PassesFollowed}
+use Rattle.verdict.specs.Demands.{back, said, answer, NoRuleBroken, HasCircle, told, shownTree, TreePair, RefusedExactlyAlways, CircularShown, CircularShownAlways, NoncircularNoneAlways, LimitsKept, LimitsKeptAlways, StepsExactly, StepsExactlyAlways, RoomExactly, RoomExactlyAlways, RoomCounts, RoomCountsAlways, playEnd, Finishes, NeverStillAlways, GetsStuck, StandsStillLeftAlways, PassesFollowed}
 use Rattle.verdict.proofs.Obeys.{obeys}
 use Rattle.verdict.proofs.Trees.{earlier, again, root-complete, root-circle, root-earlier, saturated}
 use Rattle.verdict.proofs.Room.{stored-once, stored-pairs, pairs-stored, no-more, one-more}
@@ -163,6 +163,30 @@ pub noncircular-none : NoncircularNoneAlways back
 noncircular-none bs limit room h t w c =
     none-circular (grammarOf bs) (NumberHolds 8) (InTable (grammarOf bs)) (told (grammarOf bs) (back bs limit room .entries))
     (length (back bs limit room .entries)) (full bs limit room h) (t, w, c)
+
+pub limits-kept : LimitsKeptAlways back
+limits-kept bs limit R = go (either bs)
+  where
+    go : (refusal 8 bs ≡ 0) ⊎ ((k : ℕ) × Breaks 8 bs k) → LimitsKept limit R (back bs limit R)
+    go (inl e) =
+        let s = sound bs e limit R in
+        let says = runs.Says (systemOf 8 (grammarOf bs)) (In (byNumber (grammarOf bs))) limit R (back bs limit R) in
+        record {
+          closures = s .closures;
+          entries = s .entries;
+          counted = s .counted;
+          at-limit = λ h. subst says h (s .says) .0;
+          at-room = λ h. subst says h (s .says) .0;
+        }
+    go (inr (k, b)) =
+        subst (LimitsKept limit R) (sym (refused bs k b limit R))
+        (record {
+          closures = omega arith;
+          entries = omega arith;
+          counted = refl;
+          at-limit = λ h. absurd (let z : _≡_ {A = ℕ} 2 3 = ap case h in omega arith);
+          at-room = λ h. absurd (let z : _≡_ {A = ℕ} 2 4 = ap case h in omega arith);
+        })
 
 pub steps-exactly : StepsExactlyAlways back
 steps-exactly bs L M room lt = go (either bs)

@@ -1,7 +1,7 @@
 -- The promise of the test carries the demands: nothing is left between the program's result and them. Assumes nothing.
 use mathlib.Core.Path.{_≡_, refl, sym, ap, _∙_, subst}
 use mathlib.Core.List.{List, [], map}
-use Prim.Native.Nat.{ℕ, _*_, _<_}
+use Prim.Native.Nat.{ℕ, _*_, _≤_, _<_}
 use native.Mathlib.Omega.{arith}
 use lib.ListN.{length, take, drop, length-map}
 use lib.Seq.{take-at, drop-at}
@@ -12,10 +12,11 @@ use Rattle.rules.specs.Passes.{Outcome, entry}
 use Rattle.passes.specs.Slices.{Slices, slices, roomOf, allKids, Tested, entryAt, entriesTo, readOut}
 use Rattle.rules.proofs.Stored.{Counted, counted-test}
 use Rattle.passes.proofs.Entries.{entry-at}
+use Rattle.passes.proofs.Following.{drop-later}
 use Rattle.passes.proofs.Told.{length-kids, entries-told}
-use Rattle.verdict.specs.Demands.{back}
+use Rattle.verdict.specs.Demands.{back, RoomExactly}
 use Rattle.verdict.specs.Program.{Stands, RestBefore, Demanded, ProgramAlways, RowAlways}
-use Rattle.verdict.proofs.Demands.{refused-exactly, circular-shown, noncircular-none, steps-exactly, room-exactly, room-counts, never-still, stands-still}
+use Rattle.verdict.proofs.Demands.{refused-exactly, circular-shown, noncircular-none, limits-kept, steps-exactly, room-exactly, room-counts, never-still, stands-still}
 
 -- ---- read off the slices
 
@@ -69,6 +70,18 @@ module _ (bs : List ℕ) (limit : ℕ) (σ : Slices) (r : Report) (τ : Slices) 
         (length-kids es (sound .sound .slots) ∙ ap (λ (n : ℕ). 7 * n) count);
   }
 
+  -- and the same from any later place on
+  rest-later : (n : ℕ) → r .entries ≤ n → RestBefore n σ τ
+  rest-later n l = record {
+    symbols = drop-later (r .entries) n (τ .symbols) (σ .symbols) l (rest .symbols);
+    graphs = drop-later (r .entries) n (τ .graphs) (σ .graphs) l (rest .graphs);
+    productions = drop-later (r .entries) n (τ .productions) (σ .productions) l (rest .productions);
+    kids = drop-later (7 * r .entries) (7 * n) (τ .kids) (σ .kids) (omega arith) (rest .kids);
+  }
+
+  few : r .entries ≤ roomOf σ
+  few = omega (arith, sound .sound .fits, count)
+
   whole : readOut r τ ≡ back bs limit (roomOf σ)
   whole =
       let same : entriesTo τ (r .entries) ≡ back bs limit (roomOf σ) .entries = ap (entriesTo τ) (sym count) ∙ told in
@@ -91,12 +104,22 @@ demanded bs limit R o e = subst (Demanded bs limit R) (sym e) (record {
   refused = refused-exactly bs limit R;
   circular = circular-shown bs limit R;
   noncircular = noncircular-none bs limit R;
+  limits = limits-kept bs limit R;
   steps = λ M l. steps-exactly bs limit M R l;
   room = λ l S. room-exactly bs limit l R S;
   room-counts = room-counts bs limit R;
   never-still = never-still bs limit R;
   stands-still = stands-still bs limit R;
 })
+
+-- so after any answer more room can be asked about: with the closures that were made, or with the limit
+pub room-after :
+    (bs : List ℕ) (limit R : ℕ) (o : Outcome) → Demanded bs limit R o → (S : ℕ) → R < S
+    → RoomExactly bs limit (o .report .closures) R S o × RoomExactly bs limit limit R S o
+room-after bs limit R o d S l = (
+  d .room (o .report .closures) S l (omega arith) (d .limits .closures),
+  d .room limit S l (d .limits .closures) (omega arith),
+)
 
 pub program : ProgramAlways
 program bs limit σ r τ promised =
@@ -105,6 +128,7 @@ program bs limit σ r τ promised =
       report = promised .report;
       entries = stands bs limit σ r τ promised;
       rest = rest bs limit σ r τ promised;
+      beyond = rest-later bs limit σ r τ promised _ (omega (arith, few bs limit σ r τ promised));
       untouched = λ k b. untouched bs limit σ r τ promised _ (refused-exactly bs limit (roomOf σ) k .nothing b) refl;
       whole = w;
       demanded = demanded bs limit (roomOf σ) (readOut r τ) w;

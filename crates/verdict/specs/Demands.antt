@@ -113,6 +113,18 @@ NoncircularNone bs = (t : Tree) → TreeOf bs t → ¬ HasCircle bs t
 abbrev pub NoncircularNoneAlways : Version → Type 0
 NoncircularNoneAlways v = (bs : List ℕ) (limit room : ℕ) → said (v bs limit room) ≡ Noncircular → NoncircularNone bs
 
+-- under every answer no more closures are made than the limit and no more entries stored than the room, and the report counts the entries;
+-- out of steps comes at the limit, and out of room at the room
+pub record LimitsKept (limit R : ℕ) (o : Outcome) : Type 0 where
+  pub closures : o .report .closures ≤ limit
+  pub entries : length (o .entries) ≤ R
+  pub counted : o .report .entries ≡ length (o .entries)
+  pub at-limit : said o ≡ OutOfSteps → o .report .closures ≡ limit
+  pub at-room : said o ≡ OutOfRoom → length (o .entries) ≡ R
+
+abbrev pub LimitsKeptAlways : Version → Type 0
+LimitsKeptAlways v = (bs : List ℕ) (limit R : ℕ) → LimitsKept limit R (v bs limit R)
+
 -- out of steps at the limit L comes exactly if with a greater limit M the passes make more than L closures; else M changes nothing
 pub record StepsExactly (bs : List ℕ) (L M room : ℕ) (o : Outcome) : Type 0 where
   pub exactly : (said o ≡ OutOfSteps) ↔ (L < back bs M room .report .closures)

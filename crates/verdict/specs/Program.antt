@@ -12,7 +12,7 @@ use Rattle.rules.specs.declared.Report.{Report}
 use Rattle.rules.specs.declared.Entry.{Entry}
 use Rattle.rules.specs.Passes.{Outcome, entry}
 use Rattle.passes.specs.Slices.{Slices, roomOf, Tested, readOut}
-use Rattle.verdict.specs.Demands.{back, said, NoRuleBroken, TreeOf, shownTree, RefusedExactly, CircularShown, NoncircularNone, StepsExactly, RoomExactly, RoomCounts, NeverStill, StandsStillLeft}
+use Rattle.verdict.specs.Demands.{back, said, NoRuleBroken, TreeOf, shownTree, RefusedExactly, CircularShown, NoncircularNone, LimitsKept, StepsExactly, RoomExactly, RoomCounts, NeverStill, StandsStillLeft}
 
 -- the entry k of what comes back stands at k in the slices
 pub record Stands (bs : List ℕ) (limit : ℕ) (σ τ : Slices) (k : ℕ) : Type 0 where
@@ -35,6 +35,7 @@ pub record Demanded (bs : List ℕ) (limit R : ℕ) (o : Outcome) : Type 0 where
   -- 2: circular with a tree that is shown, noncircular only if no tree has a circle, 8 and 9 exactly
   pub circular : (p : ℕ) → said o ≡ Circular p → CircularShown bs p o
   pub noncircular : said o ≡ Noncircular → NoncircularNone bs
+  pub limits : LimitsKept limit R o
   pub steps : (M : ℕ) → limit < M → StepsExactly bs limit M R o
   pub room : (l S : ℕ) → R < S → o .report .closures ≤ l → l ≤ limit → RoomExactly bs limit l R S o
   pub room-counts : NoRuleBroken bs → NoncircularNone bs → ¬ (said o ≡ OutOfSteps) → RoomCounts bs R o
@@ -47,6 +48,8 @@ pub record Program (bs : List ℕ) (limit : ℕ) (σ : Slices) (r : Report) (τ 
   pub report : r ≡ back bs limit (roomOf σ) .report
   pub entries : (k : ℕ) → k < r .entries → Stands bs limit σ τ k
   pub rest : RestBefore (r .entries) σ τ
+  -- however many places are lent, those beyond 4,096 entries are never used
+  pub beyond : RestBefore 4096 σ τ
   pub untouched : (k : ℕ) → Breaks bs k → τ ≡ σ
   pub whole : readOut r τ ≡ back bs limit (roomOf σ)
   pub demanded : Demanded bs limit (roomOf σ) (readOut r τ)
