@@ -3,7 +3,7 @@ use mathlib.Core.Path.{_≡_, refl, sym, ap, _∙_, subst, subst₂}
 use mathlib.Core.Bool.{Bool, cond}
 use mathlib.Core.List.{List}
 use mathlib.Core.Logic.{_⊎_, inl, inr}
-use Prim.Native.Nat.{ℕ, zero, suc, _^_, _<_}
+use Prim.Native.Nat.{ℕ, zero, suc, _<_}
 use native.Mathlib.Omega.{arith}
 use lib.Dec.{eqb, eqb·suc-zero}
 use lib.ListN.{length}
@@ -16,19 +16,19 @@ use Rattle.trees.specs.Tree.{Tree, InTable, WellFormed}
 use Rattle.trees.specs.Compound.{NumberHolds}
 use Rattle.trees.specs.Evaluator.{Evaluator}
 use Rattle.trees.specs.Record as record-of-trees
-use Rattle.trees.specs.Record.{OfTree}
 use Rattle.trees.proofs.Saturation.{none-circular}
 use Rattle.trees.proofs.Evaluators as evaluators
 use Rattle.rules.specs.declared.Answer.{Answer}
 use Rattle.rules.specs.declared.Answer.the-variants.{Noncircular, Circular, Refused, OutOfSteps, OutOfRoom}
-use Rattle.rules.specs.Passes.{Outcome, outcome, noRoot, empty, numbered, passes}
+use Rattle.rules.specs.Passes.{Outcome, outcome, entry, noRoot, empty, numbered, passes}
 use Rattle.rules.specs.Test.{systemIn, byNumber, test}
 use Rattle.orders.specs.Answers as runs
 use Rattle.orders.specs.Stored.{In}
 use Rattle.orders.proofs.Answers as runs-shown
-use Rattle.verdict.specs.Demands.{back, said, answer, NoRuleBroken, HasCircle, told, shownTree, TreePair, RefusedExactlyAlways, CircularShown, CircularShownAlways, NoncircularNoneAlways, LimitsKept, LimitsKeptAlways, StepsExactly, StepsExactlyAlways, RoomExactly, RoomExactlyAlways, RoomCounts, RoomCountsAlways, playEnd, Finishes, NeverStillAlways, GetsStuck, StandsStillLeftAlways, PassesFollowed}
+use Rattle.verdict.specs.Demands.{back, said, answer, NoRuleBroken, HasCircle, told, entryTree, shownTree, RefusedExactlyAlways, EntryShown, EntriesShownAlways, CircularShown, CircularShownAlways, NoncircularNoneAlways, LimitsKept, LimitsKeptAlways, StepsExactly, StepsExactlyAlways, RoomExactly, RoomExactlyAlways, RoomCounts, RoomCountsAlways, playEnd, Finishes, NeverStillAlways, GetsStuck, StandsStillLeftAlways, PassesFollowed}
 use Rattle.verdict.proofs.Obeys.{obeys}
-use Rattle.verdict.proofs.Trees.{earlier, again, root-complete, root-circle, root-earlier, saturated}
+use Rattle.verdict.proofs.Trees.{entry-shows, low, earlier, again, root-complete, root-circle, root-earlier, saturated}
+use Rattle.verdict.proofs.Words.{graph-of, tree-pair, of-tree}
 use Rattle.verdict.proofs.Room.{stored-once, stored-pairs, pairs-stored, no-more, one-more}
 
 -- ---- the cases of an answer are told apart
@@ -130,23 +130,38 @@ refused-exactly bs limit room k = record {
         subst (Breaks bs) n b
 
 -- ---- demand 2
+pub entries-shown : EntriesShownAlways back
+entries-shown bs limit room k l = go (either bs)
+  where
+    go : (refusal bs ≡ 0) ⊎ ((k : ℕ) × Breaks bs k) → EntryShown bs k (back bs limit room)
+    go (inl good) =
+        let g = grammarOf bs in
+        let o = obeys bs good in
+        let es = back bs limit room .entries in
+        let s = sound bs good limit room in
+        let h = entry-shows 8 g (o .0) (o .1) es (s .made) k l in
+        record {
+          complete = h .complete;
+          symbol = h .symbol;
+          graph = graph-of bs (entryTree bs (back bs limit room) k) (entry es k .graph) (low 8 g (o .0) (o .1) es (s .made) k l) (h .is-graph);
+          earlier = earlier 8 g (o .0) (o .1) es (s .made) k l;
+          again = again 8 g (o .0) (o .1) es (s .made) k l;
+        }
+    go (inr (j, b)) = absurd (omega (arith, ap (λ (o : Outcome). length (o .entries)) (refused bs j b limit room)))
+
 pub circular-shown : CircularShownAlways back
 circular-shown bs limit room p h =
+    let g = grammarOf bs in
     let good = not-refused bs limit room (Circular p) h (λ e. omega arith) in
+    let o = obeys bs good in
+    let es = back bs limit room .entries in
+    let slots = back bs limit room .report .root in
     let s = sound bs good limit room in
-    let root = subst (runs.Says (systemIn bs) (In (byNumber (grammarOf bs))) limit room (back bs limit room)) h (s .says) in
+    let root = subst (runs.Says (systemIn bs) (In (byNumber g)) limit room (back bs limit room)) h (s .says) in
     record {
-      complete =
-          root-complete 8 (grammarOf bs) (obeys bs good .0) (obeys bs good .1) (back bs limit room .entries) (s .made) p
-          (back bs limit room .report .root) root;
-      circle =
-          root-circle 8 (grammarOf bs) (obeys bs good .0) (obeys bs good .1) (back bs limit room .entries) (s .made) p
-          (back bs limit room .report .root) root;
-      root-earlier =
-          root-earlier 8 (grammarOf bs) (obeys bs good .0) (obeys bs good .1) (back bs limit room .entries) (s .made) p
-          (back bs limit room .report .root) root;
-      earlier = earlier 8 (grammarOf bs) (obeys bs good .0) (obeys bs good .1) (back bs limit room .entries) (s .made);
-      again = again 8 (grammarOf bs) (obeys bs good .0) (obeys bs good .1) (back bs limit room .entries) (s .made);
+      complete = root-complete 8 g (o .0) (o .1) es (s .made) p slots root;
+      circle = root-circle 8 g (o .0) (o .1) es (s .made) p slots root;
+      earlier = root-earlier 8 g (o .0) (o .1) es (s .made) p slots root;
     }
 
 -- after noncircular the store has every tree
@@ -160,17 +175,17 @@ full bs limit room h =
     (subst (runs.Says (systemIn bs) (In (byNumber (grammarOf bs))) limit room (back bs limit room)) h (s .says) .0)
 
 pub noncircular-none : NoncircularNoneAlways back
-noncircular-none bs limit room h t w c =
+noncircular-none bs limit room h =
     none-circular (grammarOf bs) (NumberHolds 8) (InTable (grammarOf bs)) (told (grammarOf bs) (back bs limit room .entries))
-    (length (back bs limit room .entries)) (full bs limit room h) (t, w, c)
+    (length (back bs limit room .entries)) (full bs limit room h)
 
 pub limits-kept : LimitsKeptAlways back
 limits-kept bs limit R = go (either bs)
   where
-    go : (refusal 8 bs ≡ 0) ⊎ ((k : ℕ) × Breaks 8 bs k) → LimitsKept limit R (back bs limit R)
+    go : (refusal bs ≡ 0) ⊎ ((k : ℕ) × Breaks bs k) → LimitsKept limit R (back bs limit R)
     go (inl e) =
         let s = sound bs e limit R in
-        let says = runs.Says (systemOf 8 (grammarOf bs)) (In (byNumber (grammarOf bs))) limit R (back bs limit R) in
+        let says = runs.Says (systemIn bs) (In (byNumber (grammarOf bs))) limit R (back bs limit R) in
         record {
           closures = s .closures;
           entries = s .entries;
@@ -240,9 +255,6 @@ room-counts bs limit R unbroken calm enough = go (answer bs limit R) refl (s .sa
     s : runs.Sound (systemIn bs) (In (byNumber (grammarOf bs))) limit R (back bs limit R)
     s = sound bs good limit R
 
-    pair : (q : ℕ × ℕ) → (q .1 < 2 ^ 64) × OfTree (grammarOf bs) (NumberHolds 8) (InTable (grammarOf bs)) q → TreePair bs q
-    pair q h = record { number = h .0; of-tree = h .1 }
-
     go : (a : Answer) → answer bs limit R ≡ a
         → runs.Says (systemIn bs) (In (byNumber (grammarOf bs))) limit R (back bs limit R) a
         → RoomCounts bs R (back bs limit R)
@@ -260,18 +272,18 @@ room-counts bs limit R unbroken calm enough = go (answer bs limit R) refl (s .sa
                   arith,
                   m .2,
                   s .entries,
-                  no-more 8 g (o .0) (o .1) es (s .made) (s .different) full (m .0) (m .1) (λ q k. (m .3 q k .number, m .3 q k .of-tree)),
+                  no-more 8 g (o .0) (o .1) es (s .made) (s .different) full (m .0) (m .1) (λ q k. of-tree bs q (m .3 q k)),
                 )),
           );
           once = stored-once 8 g (o .0) (o .1) es (s .made) (s .different);
           those = λ _ q. (
-            λ m. pair q (stored-pairs 8 g (o .0) (o .1) es (s .made) (s .different) q m),
-            λ m. pairs-stored 8 g (o .0) (o .1) es (s .made) (s .different) full q (m .number, m .of-tree),
+            λ m. tree-pair bs _ (stored-pairs 8 g (o .0) (o .1) es (s .made) (s .different) _ m),
+            λ m. pairs-stored 8 g (o .0) (o .1) es (s .made) (s .different) full _ (of-tree bs _ m),
           );
         }
     go (Circular p) h says =
         let c = circular-shown bs limit R p h in
-        absurd (calm (shownTree bs (back bs limit R) p) (c .complete) (c .circle))
+        absurd (calm (shownTree bs (back bs limit R) p, c .complete, c .circle))
     go (Refused k) h says = absurd says
     go OutOfSteps h says = absurd (enough h)
     go OutOfRoom h says =
@@ -281,7 +293,7 @@ room-counts bs limit R unbroken calm enough = go (answer bs limit R) refl (s .sa
         let x = says .1 in
         let l = one-more 8 g (o .0) (o .1) es (s .made) (s .different) (x .extra) (x .made) (x .new) in
         record {
-          exactly = (λ _. (l .0, l .1, omega (arith, l .2, says .0), λ q k. pair q (l .3 q k)), λ _. h);
+          exactly = (λ _. (l .0, l .1, omega (arith, l .2, says .0), λ q k. tree-pair bs q (l .3 q k)), λ _. h);
           once = stored-once 8 g (o .0) (o .1) es (s .made) (s .different);
           those = λ n. absurd (n h);
         }
@@ -303,7 +315,7 @@ never-still bs limit room h t w = record {
     formed = obeys bs (not-refused bs limit room Noncircular h (λ e. omega arith)) .0
 
     none : ¬ HasCircle bs t
-    none = noncircular-none bs limit room h t w
+    none c = noncircular-none bs limit room h (t, w, c)
 
     finishes : (ev : Evaluator (grammarOf bs) t) → Finishes bs t ev
     finishes ev = record {

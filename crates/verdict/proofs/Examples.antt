@@ -1,19 +1,20 @@
 -- Each demand at A, B and R: what it asks can be met. Assumes nothing.
-use mathlib.Core.Path.{_≡_, refl}
-use mathlib.Core.List.{List}
+use mathlib.Core.Path.{_≡_, refl, subst}
+use mathlib.Core.List.{List, [], _∷_, List·Memᴰ}
+use mathlib.Core.Logic.{_↔_}
 use Prim.Native.Nat.{ℕ}
 use native.Mathlib.Omega.{arith}
 use lib.ListN.{length, take, set}
 use Rattle.grammar.specs.Table.{grammarOf}
 use Rattle.grammar.specs.Rules.{Breaks}
-use Rattle.trees.specs.Tree.{node, nil, cons}
+use Rattle.trees.specs.Tree.{node, nil, cons, here}
 use Rattle.trees.specs.Evaluator.{notGiven, Evaluator, play}
 use Rattle.trees.specs.Small.{grammarA, grammarB, grammarC}
 use Rattle.rules.specs.declared.Answer.the-variants.{Noncircular, Circular, Refused, OutOfSteps, OutOfRoom}
 use Rattle.rules.specs.Opened.{opened}
 use Rattle.rules.specs.Small.{tableA, tableB, tableC, tableR}
-use Rattle.verdict.specs.Demands.{back, answer, NoRuleBroken, TreeOf, HasCircle, shownTree, NoncircularNone, MorePairs, NeverStill, StandsStillLeft}
-use Rattle.verdict.proofs.Demands.{refused-exactly, circular-shown, noncircular-none, steps-exactly, room-exactly, room-counts, never-still, stands-still}
+use Rattle.verdict.specs.Demands.{back, answer, NoRuleBroken, TreeOf, PathIn, HasCircle, GraphOf, TreePair, entryTree, shownTree, NoncircularNone, MorePairs, storedPairs, NeverStill, StandsStillLeft}
+use Rattle.verdict.proofs.Demands.{refused-exactly, entries-shown, circular-shown, noncircular-none, steps-exactly, room-exactly, room-counts, never-still, stands-still}
 
 -- ---- the bytes of A, B and C are the grammars that the trees' samples have as records
 pub grammar-A : grammarOf tableA ≡ grammarA
@@ -84,6 +85,29 @@ not-three m =
     let c = room-counts tableA 10 3 unbroken-A none-A (λ e. let z : _≡_ {A = ℕ} 0 1 = cc noncircular-A in omega arith) in
     let k = c .exactly .1 m in
     let z : _≡_ {A = ℕ} 0 1 = cc noncircular-A in omega arith
+
+-- the trees of A have these pairs and no others: what is stored
+stored-A : storedPairs tableA (back tableA 10 3) ≡ (1, 4) ∷ (1, 2048) ∷ (0, 0) ∷ []
+unfolding opened tableA
+stored-A = refl
+
+pairs-A : (q : ℕ × ℕ) → List·Memᴰ q ((1, 4) ∷ (1, 2048) ∷ (0, 0) ∷ []) ↔ TreePair tableA q
+pairs-A q =
+    subst (λ (l : List (ℕ × ℕ)). List·Memᴰ q l ↔ TreePair tableA q) stored-A
+    (room-counts tableA 10 3 unbroken-A none-A (λ e. let z : _≡_ {A = ℕ} 0 1 = cc noncircular-A in omega arith) .those
+    (λ e. let z : _≡_ {A = ℕ} 0 1 = cc noncircular-A in omega arith) q)
+
+-- the first entry shows production 1 by itself; its graph is 4: a path from attribute 0 to attribute 2
+tree-of-entry-A : entryTree tableA (back tableA 10 3) 0 ≡ node 1 nil
+unfolding opened tableA
+tree-of-entry-A = refl
+
+graph-of-entry-A : GraphOf tableA (node 1 nil) 4
+unfolding opened tableA
+graph-of-entry-A = entries-shown tableA 10 3 0 (omega (arith, entries-A)) .graph
+
+path-A : PathIn tableA (node 1 nil) (here 0) (here 2)
+path-A = graph-of-entry-A .bits 0 2 (omega arith) (omega arith) .0 refl
 
 -- ---- demand 3 at A: an evaluator on production 0 over production 1 never stands still too early
 tree-A : TreeOf tableA (node 0 (cons (node 1 nil) nil))

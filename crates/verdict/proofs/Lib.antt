@@ -9,6 +9,7 @@ pub mod Bridge
 pub mod Obeys
 pub mod Trees
 pub mod Room
+pub mod Words
 pub mod Demands
 pub mod Program
 pub mod Examples

@@ -16,7 +16,7 @@ use Rattle.passes.proofs.Following.{drop-later}
 use Rattle.passes.proofs.Told.{length-kids, entries-told}
 use Rattle.verdict.specs.Demands.{back, RoomExactly}
 use Rattle.verdict.specs.Program.{Stands, RestBefore, Demanded, ProgramAlways, RowAlways}
-use Rattle.verdict.proofs.Demands.{refused-exactly, circular-shown, noncircular-none, limits-kept, steps-exactly, room-exactly, room-counts, never-still, stands-still}
+use Rattle.verdict.proofs.Demands.{refused-exactly, entries-shown, circular-shown, noncircular-none, limits-kept, steps-exactly, room-exactly, room-counts, never-still, stands-still}
 
 -- ---- read off the slices
 
@@ -102,6 +102,7 @@ module _ (bs : List ℕ) (limit : ℕ) (σ : Slices) (r : Report) (τ : Slices) 
 demanded : (bs : List ℕ) (limit R : ℕ) (o : Outcome) → o ≡ back bs limit R → Demanded bs limit R o
 demanded bs limit R o e = subst (Demanded bs limit R) (sym e) (record {
   refused = refused-exactly bs limit R;
+  entries = entries-shown bs limit R;
   circular = circular-shown bs limit R;
   noncircular = noncircular-none bs limit R;
   limits = limits-kept bs limit R;

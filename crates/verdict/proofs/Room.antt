@@ -21,7 +21,7 @@ use Rattle.rules.specs.Passes.{entry}
 use Rattle.rules.specs.Test.{systemOf, byNumber}
 use Rattle.orders.specs.Stored.{In, Made, Different, PairStored}
 use Rattle.verdict.specs.Demands.{told}
-use Rattle.verdict.proofs.Trees.{small, all-derived, next-tree}
+use Rattle.verdict.proofs.Trees.{small, all-derived, low, next-tree}
 
 module _ (w : ℕ) (g : Grammar) (formed : WellFormed g) (few : AtMost w g) (es : List Entry)
     (made : (k : ℕ) → k < length es → Made (systemOf w g) (In (byNumber g)) es k (entry es k)) (different : Different es) where
@@ -38,14 +38,11 @@ module _ (w : ℕ) (g : Grammar) (formed : WellFormed g) (few : AtMost w g) (es 
   abbrev pairAt : ℕ → ℕ × ℕ
   pairAt k = (entry es k .symbol, entry es k .graph)
 
-  low : (k : ℕ) → k < length es → entry es k .graph < 2 ^ (w * w)
-  low k l = small w g formed few es k (entry es k) (made k l)
-
   pub stored-pairs : (q : ℕ × ℕ) → List·Memᴰ q (pairs (told g es) (length es)) → Pair q
   stored-pairs q m =
       let r = Memᴰ·of-map pairAt (upFrom 0 (length es)) m in
       let l : r .0 < length es = omega (arith, upFrom-mem 0 (length es) (r .1) .1) in (
-        subst (λ (z : ℕ × ℕ). z .1 < 2 ^ (w * w)) (r .2) (low (r .0) l),
+        subst (λ (z : ℕ × ℕ). z .1 < 2 ^ (w * w)) (r .2) (low w g formed few es made (r .0) l),
         pairs-of-trees (told g es) (length es) g (NumberHolds w) (InTable g) (all-derived w g formed few es made) q m,
       )
 
@@ -55,13 +52,13 @@ module _ (w : ℕ) (g : Grammar) (formed : WellFormed g) (few : AtMost w g) (es 
     pairs-stored q (s, (t, o)) =
         let k = all-stored g (NumberHolds w) (InTable g) (told g es) (length es) full t (o .complete) in
         let e =
-        one-graph g (NumberHolds w) (InTable g) (told g es) (length es) (λ x. x < 2 ^ (w * w)) (told-apart w) low (entry es (k .number) .graph)
-        (q .1) (low (k .number) (k .among)) s t (k .graph) (o .is-graph) in
+        one-graph g (NumberHolds w) (InTable g) (told g es) (length es) (λ x. x < 2 ^ (w * w)) (told-apart w) (low w g formed few es made) (entry es (k .number) .graph)
+        (q .1) (low w g formed few es made (k .number) (k .among)) s t (k .graph) (o .is-graph) in
         let here : _≡_ {A = ℕ × ℕ} q (pairAt (k .number)) = λ i. (sym (k .symbol ∙ o .symbol) i, sym e i) in
         Memᴰ·cast here (Memᴰ·map pairAt (upFrom-at 0 (length es) (k .number) (omega arith) (omega (arith, k .among))))
 
     pub no-more : (l : List (ℕ × ℕ)) → Distinct l → ((q : ℕ × ℕ) → List·Memᴰ q l → Pair q) → length l ≤ length es
-    no-more = counting-numbers g w (InTable g) (told g es) (length es) low full
+    no-more = counting-numbers g w (InTable g) (told g es) (length es) (low w g formed few es made) full
 
   -- a pair that is not stored, made of the entries: with the entries it is one more
   pub one-more : (e : Entry) → Made (systemOf w g) (In (byNumber g)) es (length es) e → (PairStored es (e .symbol) (e .graph) → ⊥)

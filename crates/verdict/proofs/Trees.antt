@@ -14,7 +14,7 @@ use Rattle.trees.specs.Compound.{Makes, NumberHolds}
 use Rattle.trees.specs.Record as record-of-trees
 use Rattle.trees.specs.Record.{shownEntry, shown, Derived, Shows, OfTree}
 use Rattle.numbers.proofs.Members.{upFrom-at, upFrom-mem}
-use Rattle.trees.proofs.Shown.{fits-below, graphs-count, shown-complete, shown-graph, shown-circle, shown-again}
+use Rattle.trees.proofs.Shown.{fits-below, graphs-count, entry-shown, shown-complete, shown-graph, shown-circle, shown-again}
 use Rattle.rules.specs.declared.Entry.{Entry}
 use Rattle.rules.specs.Passes.{System, entry, graphs}
 use Rattle.rules.specs.Test.{closed, systemOf, byNumber}
@@ -75,6 +75,15 @@ module _ (w : ℕ) (g : Grammar) (formed : WellFormed g) (few : AtMost w g) wher
   module _ (es : List Entry) (made : (k : ℕ) → k < length es → Made (systemOf w g) (In (byNumber g)) es k (entry es k)) where
     pub all-derived : (k : ℕ) → k < length es → Derived g (NumberHolds w) (InTable g) (told g es) k
     all-derived k l = derived es k (made k l)
+
+    -- the tree of each entry is complete, with its symbol and graph
+    pub entry-shows : (k : ℕ) → k < length es
+        → Shows g (NumberHolds w) (InTable g) (told g es k .symbol) (told g es k .graph) (shownEntry (told g es) k)
+    entry-shows = entry-shown g (NumberHolds w) (InTable g) (told g es) (length es) all-derived
+
+    -- its number has w * w bits
+    pub low : (k : ℕ) → k < length es → entry es k .graph < 2 ^ (w * w)
+    low k l = small es k (entry es k) (made k l)
 
     -- each number is smaller than its parent's
     pub earlier : (k : ℕ) → k < length es → (j : ℕ) → List·Memᴰ j (told g es k .kids) → j < k

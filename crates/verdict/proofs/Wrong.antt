@@ -56,7 +56,7 @@ abbrev treeB : Tree
 treeB = shownTree tableB (back tableB 3 2) 0
 
 pub some-B : ¬ NoncircularNone tableB
-some-B none = let c = circular-shown tableB 3 2 0 circular-B in none treeB (c .complete) (c .circle)
+some-B none = let c = circular-shown tableB 3 2 0 circular-B in none (treeB, c .complete, c .circle)
 
 pub none-finishes-B : (ev : Evaluator (grammarOf tableB) treeB) → ¬ Finishes tableB treeB ev
 none-finishes-B ev finishes =
@@ -83,7 +83,7 @@ always-noncircular-still v demand wrong =
 
 -- ---- demand 2 at A: no outcome shows a tree with a circle
 pub no-tree-A : (p : ℕ) (o : Outcome) → ¬ CircularShown tableA p o
-no-tree-A p o c = none-A (shownTree tableA o p) (c .complete) (c .circle)
+no-tree-A p o c = none-A (shownTree tableA o p, c .complete, c .circle)
 
 pub always-circular : (v : Version) → CircularShownAlways v → ¬ AlwaysCircular v
 always-circular v demand wrong =

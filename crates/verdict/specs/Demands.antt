@@ -5,18 +5,18 @@ use mathlib.Core.Bool.{true, false}
 use mathlib.Core.List.{List, List·Memᴰ}
 use mathlib.Core.Logic.{_↔_}
 use mathlib.Core.Path.{_≡_}
-use Prim.Native.Nat.{ℕ, _+_, _^_, _≤_, _<_}
+use Prim.Native.Nat.{ℕ, _+_, _*_, _^_, _≤_, _<_}
 use lib.ListN.{length, take}
 use Rattle.numbers.specs.Lists.{Distinct}
-use Rattle.numbers.specs.Paths.{Plus, Circle}
+use Rattle.numbers.specs.Number.{bit}
+use Rattle.numbers.specs.Paths.{Plus}
 use Rattle.grammar.specs.Grammar.{Grammar, production, rights}
 use Rattle.grammar.specs.Table.{grammarOf}
 use Rattle.grammar.specs.Rules.{Breaks}
-use Rattle.trees.specs.Tree.{Tree, Instance, Complete, InTable, TreeEdge, instances}
-use Rattle.trees.specs.Compound.{NumberHolds}
+use Rattle.trees.specs.Tree.{Tree, rootSymbol, Instance, here, Complete, InTable, TreeEdge, instances}
 use Rattle.trees.specs.Evaluator.{Computed, left, notGiven, MayTake, StandsStill, Reached, Position, Evaluator, play}
 use Rattle.trees.specs.Record as record-of-trees
-use Rattle.trees.specs.Record.{shownEntry, shown, pairs, OfTree}
+use Rattle.trees.specs.Record.{shownEntry, shown, pairs}
 use Rattle.rules.specs.declared.Answer.{Answer}
 use Rattle.rules.specs.declared.Answer.the-variants.{Noncircular, Circular, Refused, OutOfSteps, OutOfRoom}
 use Rattle.rules.specs.declared.Entry.{Entry}
@@ -46,12 +46,34 @@ NoRuleBroken bs = (k : ℕ) → ¬ Breaks bs k
 abbrev pub TreeOf : List ℕ → Tree → Type 0
 TreeOf bs = Complete (grammarOf bs) (InTable (grammarOf bs))
 
-abbrev pub HasCircle : List ℕ → Tree → Type 0
-HasCircle bs t = Circle (TreeEdge (grammarOf bs) t)
+-- a path of one or more edges inside a tree
+abbrev pub PathIn : List ℕ → Tree → Instance → Instance → Type 0
+PathIn bs t = Plus (TreeEdge (grammarOf bs) t)
 
--- a path of one or more edges leads from y back to y
+-- a circle: such a path back to where it began
 abbrev pub OnCircle : List ℕ → Tree → Instance → Type 0
-OnCircle bs t y = Plus (TreeEdge (grammarOf bs) t) y y
+OnCircle bs t y = PathIn bs t y y
+
+abbrev pub HasCircle : List ℕ → Tree → Type 0
+HasCircle bs t = (y : Instance) × OnCircle bs t y
+
+-- the grammar is circular: some finite complete tree, rooted at any symbol, has a circle
+abbrev pub SomeCircle : List ℕ → Type 0
+SomeCircle bs = (t : Tree) × TreeOf bs t × HasCircle bs t
+
+-- The graph of a tree as one 64-bit number: it holds the pair (a, b) of root attributes, worth 2 to the power 8a + b, exactly if a path of at
+-- least one edge leads from a to b inside the tree. No path leads from or to any other number of a root attribute.
+pub record GraphOf (bs : List ℕ) (t : Tree) (graph : ℕ) : Type 0 where
+  pub number : graph < 2 ^ 64
+  pub bits : (a b : ℕ) → a < 8 → b < 8 → (bit (8 * a + b) graph ≡ 1) ↔ PathIn bs t (here a) (here b)
+  pub no-other : (a b : ℕ) → PathIn bs t (here a) (here b) → (a < 8) × (b < 8)
+
+-- a symbol and a graph that some finite complete tree has, at its root
+pub record TreePair (bs : List ℕ) (q : ℕ × ℕ) : Type 0 where
+  pub tree : Tree
+  pub complete : TreeOf bs tree
+  pub symbol : rootSymbol (grammarOf bs) tree ≡ q .0
+  pub graph : GraphOf bs tree (q .1)
 
 -- of seven slots, those that count: one for each right symbol
 abbrev pub kidsOf : Grammar → ℕ → List ℕ → List ℕ
@@ -77,11 +99,6 @@ entryTree bs o = shownEntry (entryOf bs o)
 abbrev pub shownTree : List ℕ → Outcome → ℕ → Tree
 shownTree bs o p = shown (entryOf bs o) p (kidsOf (grammarOf bs) p (o .report .root))
 
--- a symbol and the number of a graph, of some tree
-pub record TreePair (bs : List ℕ) (q : ℕ × ℕ) : Type 0 where
-  pub number : q .1 < 2 ^ 64
-  pub of-tree : OfTree (grammarOf bs) (NumberHolds 8) (InTable (grammarOf bs)) q
-
 -- ---- demand 1: a bad table is refused by number, and no other; then nothing is counted or stored
 pub record RefusedExactly (bs : List ℕ) (k : ℕ) (o : Outcome) : Type 0 where
   pub exactly : (said o ≡ Refused k) ↔ Breaks bs k
@@ -92,15 +109,26 @@ RefusedExactlyAlways v = (bs : List ℕ) (limit room k : ℕ) → RefusedExactly
 
 -- ---- demand 2: the verdict
 
--- after circular: the shown tree is complete and has a circle
+-- an entry: the tree that it shows is complete, with the entry's symbol at its root and the entry's graph
+pub record EntryShown (bs : List ℕ) (k : ℕ) (o : Outcome) : Type 0 where
+  pub complete : TreeOf bs (entryTree bs o k)
+  pub symbol : rootSymbol (grammarOf bs) (entryTree bs o k) ≡ entryOf bs o k .symbol
+  pub graph : GraphOf bs (entryTree bs o k) (entryOf bs o k .graph)
+  -- the tree is finite because each number is smaller than its parent's
+  pub earlier : (j : ℕ) → List·Memᴰ j (entryOf bs o k .kids) → j < k
+  -- so nothing is cut off: it is again the entry's production over the trees of its entry numbers
+  pub again : entryTree bs o k ≡ shown (entryOf bs o) (entryOf bs o k .production) (entryOf bs o k .kids)
+
+-- under every answer
+abbrev pub EntriesShownAlways : Version → Type 0
+EntriesShownAlways v =
+    (bs : List ℕ) (limit room k : ℕ) → k < length (v bs limit room .entries) → EntryShown bs k (v bs limit room)
+
+-- after circular: the shown tree is complete and has a circle; the entry numbers of its root are those of stored entries
 pub record CircularShown (bs : List ℕ) (p : ℕ) (o : Outcome) : Type 0 where
   pub complete : TreeOf bs (shownTree bs o p)
   pub circle : HasCircle bs (shownTree bs o p)
-  -- finite because each number is smaller than its parent's: those of the root are below the number of entries, those of an entry below its own
-  pub root-earlier : (j : ℕ) → List·Memᴰ j (kidsOf (grammarOf bs) p (o .report .root)) → j < length (o .entries)
-  pub earlier : (k : ℕ) → k < length (o .entries) → (j : ℕ) → List·Memᴰ j (entryOf bs o k .kids) → j < k
-  -- so nothing is cut off: the tree of each entry is again its production over the trees of its entry numbers
-  pub again : (k : ℕ) → k < length (o .entries) → entryTree bs o k ≡ shown (entryOf bs o) (entryOf bs o k .production) (entryOf bs o k .kids)
+  pub earlier : (j : ℕ) → List·Memᴰ j (kidsOf (grammarOf bs) p (o .report .root)) → j < length (o .entries)
 
 abbrev pub CircularShownAlways : Version → Type 0
 CircularShownAlways v =
@@ -108,7 +136,7 @@ CircularShownAlways v =
 
 -- after noncircular: no tree has a circle
 abbrev pub NoncircularNone : List ℕ → Type 0
-NoncircularNone bs = (t : Tree) → TreeOf bs t → ¬ HasCircle bs t
+NoncircularNone bs = ¬ SomeCircle bs
 
 abbrev pub NoncircularNoneAlways : Version → Type 0
 NoncircularNoneAlways v = (bs : List ℕ) (limit room : ℕ) → said (v bs limit room) ≡ Noncircular → NoncircularNone bs

@@ -3,7 +3,7 @@
 use mathlib.Core.List.{List}
 use mathlib.Core.Path.{_≡_}
 use Prim.Native.Nat.{ℕ, _*_, _≤_, _<_}
-use lib.ListN.{getD, take, drop}
+use lib.ListN.{length, getD, take, drop}
 use Rattle.numbers.specs.Lists.{written}
 use Rattle.grammar.specs.Rules.{Breaks}
 use Rattle.trees.specs.Tree.{Tree}
@@ -12,7 +12,7 @@ use Rattle.rules.specs.declared.Report.{Report}
 use Rattle.rules.specs.declared.Entry.{Entry}
 use Rattle.rules.specs.Passes.{Outcome, entry}
 use Rattle.passes.specs.Slices.{Slices, roomOf, Tested, readOut}
-use Rattle.verdict.specs.Demands.{back, said, NoRuleBroken, TreeOf, shownTree, RefusedExactly, CircularShown, NoncircularNone, LimitsKept, StepsExactly, RoomExactly, RoomCounts, NeverStill, StandsStillLeft}
+use Rattle.verdict.specs.Demands.{back, said, NoRuleBroken, TreeOf, shownTree, RefusedExactly, EntryShown, CircularShown, NoncircularNone, LimitsKept, StepsExactly, RoomExactly, RoomCounts, NeverStill, StandsStillLeft}
 
 -- the entry k of what comes back stands at k in the slices
 pub record Stands (bs : List ℕ) (limit : ℕ) (σ τ : Slices) (k : ℕ) : Type 0 where
@@ -32,6 +32,8 @@ pub record RestBefore (n : ℕ) (σ τ : Slices) : Type 0 where
 pub record Demanded (bs : List ℕ) (limit R : ℕ) (o : Outcome) : Type 0 where
   -- 1: refused by number exactly
   pub refused : (k : ℕ) → RefusedExactly bs k o
+  -- every entry means a tree
+  pub entries : (k : ℕ) → k < length (o .entries) → EntryShown bs k o
   -- 2: circular with a tree that is shown, noncircular only if no tree has a circle, 8 and 9 exactly
   pub circular : (p : ℕ) → said o ≡ Circular p → CircularShown bs p o
   pub noncircular : said o ≡ Noncircular → NoncircularNone bs
