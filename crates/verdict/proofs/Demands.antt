@@ -74,13 +74,13 @@ module _ (bs : List ℕ) where
       ap (λ (n : ℕ). cond (eqb n 0) (ran limit room) (outcome (numbered n) noRoot empty 0)) e
       ∙ ap (λ (b : Bool). cond b (ran limit room) (outcome (numbered (suc k)) noRoot empty 0)) (eqb·suc-zero k)
 
-  refused : (k : ℕ) → Breaks bs k → (limit room : ℕ) → back bs limit room ≡ outcome (Refused k) noRoot empty 0
+  pub refused : (k : ℕ) → Breaks bs k → (limit room : ℕ) → back bs limit room ≡ outcome (Refused k) noRoot empty 0
   refused k b limit room =
       let j = some-rule bs k b in
       turned-away (j .0) (rules-shown.refused-exactly bs (j .0) .1 (subst (Breaks bs) (j .1) b)) limit room
       ∙ ap (λ (a : Answer). outcome a noRoot empty 0) (ap numbered (sym (j .1)) ∙ broken bs k b)
 
-  either : (refusal bs ≡ 0) ⊎ ((k : ℕ) × Breaks bs k)
+  pub either : (refusal bs ≡ 0) ⊎ ((k : ℕ) × Breaks bs k)
   either = go (refusal bs) refl
     where
       go : (n : ℕ) → refusal bs ≡ n → (refusal bs ≡ 0) ⊎ ((k : ℕ) × Breaks bs k)
@@ -103,7 +103,7 @@ module _ (bs : List ℕ) where
       go (inr (k, b)) = absurd (n (ap case (sym h) ∙ ap (λ (o : Outcome). case (o .report .answer)) (refused k b limit room)))
 
   module _ (good : refusal bs ≡ 0) where
-    sound : (limit room : ℕ) → runs.Sound (systemIn bs) (In (byNumber (grammarOf bs))) limit room (back bs limit room)
+    pub sound : (limit room : ℕ) → runs.Sound (systemIn bs) (In (byNumber (grammarOf bs))) limit room (back bs limit room)
     sound limit room =
         subst (runs.Sound (systemIn bs) (In (byNumber (grammarOf bs))) limit room) (sym (taken good limit room))
         (runs-shown.outcome-sound (systemIn bs) (byNumber (grammarOf bs)) limit room)
