@@ -12,5 +12,6 @@ pub mod Room
 pub mod Words
 pub mod Demands
 pub mod Program
+pub mod Ways
 pub mod Examples
 pub mod Wrong

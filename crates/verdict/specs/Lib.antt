@@ -2,3 +2,4 @@
 pub mod Demands
 pub mod Program
 pub mod Wrong
+pub mod Ways
