@@ -3,8 +3,8 @@ use mathlib.Core.Path.{_≡_, refl, sym, ap, _∙_, subst}
 use mathlib.Core.List.{List, [], map}
 use Prim.Native.Nat.{ℕ, _*_, _≤_, _<_}
 use native.Mathlib.Omega.{arith}
-use lib.ListN.{length, take, drop, length-map}
-use lib.Seq.{take-at, drop-at}
+use lib.ListN.{length, drop, length-map}
+use lib.Seq.{drop-at}
 use Rattle.numbers.specs.Lists.{written}
 use Rattle.rules.specs.declared.Report.{Report}
 use Rattle.rules.specs.declared.Entry.{Entry}
@@ -15,13 +15,13 @@ use Rattle.passes.proofs.Entries.{entry-at}
 use Rattle.passes.proofs.Following.{drop-later}
 use Rattle.passes.proofs.Told.{length-kids, entries-told}
 use Rattle.verdict.specs.Demands.{back, RoomExactly}
-use Rattle.verdict.specs.Program.{Stands, RestBefore, Demanded, ProgramAlways, RowAlways}
+use Rattle.verdict.specs.Program.{Stands, RestBefore, Demanded, Program}
 use Rattle.verdict.proofs.Demands.{refused-exactly, entries-shown, circular-shown, noncircular-none, limits-kept, steps-exactly, room-exactly, room-counts, never-still, stands-still}
 
 -- ---- read off the slices
 
 -- behind what is written all is as before
-behind : (new old now : List ℕ) (n : ℕ) → now ≡ written new old → length new ≡ n → drop n now ≡ drop n old
+pub behind : {A : Type 0} (new old now : List A) (n : ℕ) → now ≡ written new old → length new ≡ n → drop n now ≡ drop n old
 behind new old now n e l = ap (drop n) e ∙ drop-at new (drop (length new) old) n l ∙ ap (λ (k : ℕ). drop k old) l
 
 module _ (bs : List ℕ) (limit : ℕ) (σ : Slices) (r : Report) (τ : Slices) (promised : Tested bs limit σ r τ) where
@@ -99,7 +99,7 @@ module _ (bs : List ℕ) (limit : ℕ) (σ : Slices) (r : Report) (τ : Slices) 
 
 -- ---- all that is asked
 
-demanded : (bs : List ℕ) (limit R : ℕ) (o : Outcome) → o ≡ back bs limit R → Demanded bs limit R o
+pub demanded : (bs : List ℕ) (limit R : ℕ) (o : Outcome) → o ≡ back bs limit R → Demanded bs limit R o
 demanded bs limit R o e = subst (Demanded bs limit R) (sym e) (record {
   refused = refused-exactly bs limit R;
   entries = entries-shown bs limit R;
@@ -122,23 +122,15 @@ room-after bs limit R o d S l = (
   d .room limit S l (d .limits .closures) (omega arith),
 )
 
-pub program : ProgramAlways
-program bs limit σ r τ promised =
+pub carried : (bs : List ℕ) (limit : ℕ) (σ : Slices) (r : Report) (τ : Slices) → Tested bs limit σ r τ → Program bs limit σ r τ
+carried bs limit σ r τ promised =
     let w = whole bs limit σ r τ promised in
     record {
       report = promised .report;
       entries = stands bs limit σ r τ promised;
       rest = rest bs limit σ r τ promised;
       beyond = rest-later bs limit σ r τ promised _ (omega (arith, few bs limit σ r τ promised));
-      untouched = λ k b. untouched bs limit σ r τ promised _ (refused-exactly bs limit (roomOf σ) k .nothing b) refl;
+      untouched = λ k b. rw (untouched bs limit σ r τ promised _ (refused-exactly bs limit (roomOf σ) k .nothing b) refl);
       whole = w;
       demanded = demanded bs limit (roomOf σ) (readOut r τ) w;
     }
-
-pub program-of-records : RowAlways
-program-of-records bs limit R r before after report row =
-    let es = back bs limit R .entries in
-    let n : length es ≡ r .entries = sym (ap (λ (x : Report). x .entries) report ∙ counted-test bs limit R .count) in
-    let front : take (r .entries) after ≡ back bs limit R .entries =
-    ap (take (r .entries)) row ∙ take-at es (drop (length es) before) (r .entries) n in
-    demanded bs limit R _ (λ j. record { report = report j; entries = front j })

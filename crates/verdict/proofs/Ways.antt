@@ -1,10 +1,14 @@
 -- Every way to an answer tells the outcome. Assumes nothing.
-use mathlib.Core.Path.{_≡_, refl, sym, subst}
-use mathlib.Core.List.{List}
+use mathlib.Core.Path.{_≡_, refl, sym, ap, _∙_, subst}
+use mathlib.Core.List.{List, [], _∷_, map}
 use mathlib.Core.Logic.{_⊎_, inl, inr}
-use Prim.Native.Nat.{ℕ, _<_}
+use Prim.Native.Nat.{ℕ, zero, suc, _+_, _≤_}
 use native.Mathlib.Omega.{arith}
-use lib.ListN.{length}
+use lib.ListN.{length, getD, take, drop, length-take, drop-of-length-le}
+use lib.Seq.{drop-cons, take-at, getD-take}
+use contract.Monad.{fact-mono}
+use denote.Ref.{now}
+use Rattle.numbers.specs.Lists.{upFrom, written}
 use Rattle.grammar.specs.Grammar.{production, rights}
 use Rattle.grammar.specs.Table.{grammarOf}
 use Rattle.grammar.specs.Rules.{Breaks}
@@ -12,30 +16,75 @@ use Rattle.grammar.specs.Refusal.{refusal}
 use Rattle.trees.proofs.Values.{length-rights}
 use Rattle.rules.specs.declared.Answer.{Answer}
 use Rattle.rules.specs.declared.Answer.the-variants.{Noncircular, Circular, Refused, OutOfSteps, OutOfRoom}
-use Rattle.rules.specs.Passes.{Outcome, outcome, noRoot, empty}
+use Rattle.rules.specs.declared.Report.{Report}
+use Rattle.rules.specs.declared.Entry.{Entry}
+use Rattle.rules.specs.Passes.{Outcome, outcome, numbered, numberOf, productionOf, entry, noEntry, noRoot, empty}
 use Rattle.rules.specs.Test.{systemOf, byNumber}
+use Rattle.rules.proofs.Stored.{length-seven, counted-test, slots-seven}
+use Rattle.passes.specs.Slices as slices
+use Rattle.records.specs.Records.{roomOf, Tested}
+use Rattle.kusillaqe.specs.Flat.{flat}
 use Rattle.orders.specs.Answers as runs
 use Rattle.orders.specs.Stored.{In, Slots}
 use Rattle.texts.specs.Lines.{kidsIn}
 use Rattle.texts.specs.Telling.{OthersZero, RootZero, UnprintedZero}
 use Rattle.texts.proofs.Telling.{printed-tells}
 use Rattle.verdict.specs.Demands.{back, answer}
-use Rattle.verdict.specs.Ways.{TextTells}
+use Rattle.verdict.specs.Ways.{lent, left, ProgramAlways, readRow, RowProgram, RowAlways, answerFrom, unflat, NumbersTell, exportLent, exportLeft, numbersLeft, ExportAlways, TextTells, TouchedFalls, TouchedRowFalls}
 use Rattle.verdict.proofs.Obeys.{obeys}
 use Rattle.verdict.proofs.Demands.{refused, either, sound}
+use Rattle.verdict.proofs.Program.{behind, demanded, carried}
 
--- ---- the printed text
+-- ---- over lent slices
 
-module _ (bs : List ℕ) (good : refusal 8 bs ≡ 0) where
+pub program : ProgramAlways
+program κs a r s promised = carried (now (a .0)) (a .1 .0) (lent κs a) r (left κs s) promised
+
+-- ---- over a lent row of records
+
+module _ (bs : List ℕ) (limit : ℕ) (before : List Entry) (r : Report) (after : List Entry) (promised : Tested bs limit before r after) where
+  abbrev R : ℕ
+  R = roomOf before
+
+  row-count : length (back bs limit (roomOf before) .entries) ≡ r .entries
+  row-count = sym (ap (λ (x : Report). x .entries) (promised .report) ∙ counted-test bs limit R .count)
+
+  row-front : take (r .entries) after ≡ back bs limit (roomOf before) .entries
+  row-front =
+      let es = back bs limit R .entries in
+      ap (take (r .entries)) (promised .entries) ∙ take-at es (drop (length es) before) (r .entries) row-count
+
+  row-untouched : (o : Outcome) → back bs limit (roomOf before) ≡ o → o .entries ≡ [] → after ≡ before
+  row-untouched o h none = promised .entries ∙ ap (λ (es : List Entry). written es before) (ap (λ (x : Outcome). x .entries) h ∙ none)
+
+  carried-row : RowProgram bs limit before r after
+  carried-row =
+      let w : readRow r after ≡ back bs limit R = λ j. record { report = promised .report j; entries = row-front j } in
+      record {
+        report = promised .report;
+        entries = λ k l. sym (getD-take (r .entries) after k noEntry l) ∙ ap (λ (es : List Entry). entry es k) row-front;
+        rest = behind (back bs limit R .entries) before after (r .entries) (promised .entries) row-count;
+        untouched = λ k b. rw (row-untouched _ (refused bs k b limit R) refl);
+        whole = w;
+        demanded = demanded bs limit R (readRow r after) w;
+      }
+
+pub program-of-records : RowAlways
+program-of-records M 𝓤 H A mem run κs a r s =
+    fact-mono 𝓤 _ _ (carried-row (now (a .0)) (a .1 .0) (now (a .1 .1 .0)) r (now (s .1 .1 .0)))
+
+-- ---- what an answer leaves at 0
+
+module _ (bs : List ℕ) (good : refusal bs ≡ 0) where
   -- the slots that count are those of the right symbols
-  others : (n p : ℕ) (slots : List ℕ) (o : Outcome) → Slots (systemOf 8 (grammarOf bs)) (In (byNumber (grammarOf bs))) (o .entries) n p slots
+  others : (n p : ℕ) (slots : List ℕ) (o : Outcome) → Slots (systemIn bs) (In (byNumber (grammarOf bs))) (o .entries) n p slots
       → OthersZero (kidsIn bs p) slots
   unfolding systemOf
   others n p slots o s =
-      subst (λ (k : ℕ). OthersZero k slots) (length-rights (grammarOf bs) (obeys 8 bs good .0) p) (s .rest)
+      subst (λ (k : ℕ). OthersZero k slots) (length-rights (grammarOf bs) (obeys bs good .0) p) (s .rest)
 
   root-zero : (limit room : ℕ) (o : Outcome) (a : Answer)
-      → runs.Says (systemOf 8 (grammarOf bs)) (In (byNumber (grammarOf bs))) limit room o a → RootZero (kidsIn bs) o a
+      → runs.Says (systemIn bs) (In (byNumber (grammarOf bs))) limit room o a → RootZero (kidsIn bs) o a
   root-zero limit room o Noncircular s = s .1
   root-zero limit room o (Circular p) s = others (length (o .entries)) p (o .report .root) o (s .kids)
   root-zero limit room o (Refused k) s = absurd s
@@ -45,7 +94,7 @@ module _ (bs : List ℕ) (good : refusal 8 bs ≡ 0) where
 unprinted-zero : (bs : List ℕ) (limit room : ℕ) → UnprintedZero (kidsIn bs) (back bs limit room)
 unprinted-zero bs limit room = go (either bs)
   where
-    go : (refusal 8 bs ≡ 0) ⊎ ((k : ℕ) × Breaks 8 bs k) → UnprintedZero (kidsIn bs) (back bs limit room)
+    go : (refusal bs ≡ 0) ⊎ ((k : ℕ) × Breaks bs k) → UnprintedZero (kidsIn bs) (back bs limit room)
     go (inl good) =
         let s = sound bs good limit room in
         record {
@@ -56,7 +105,85 @@ unprinted-zero bs limit room = go (either bs)
         subst (UnprintedZero (kidsIn bs)) (sym (refused bs k b limit room))
         (record { kids = λ j l. absurd (omega arith); root = refl })
 
+-- ---- the twelve numbers
+
+-- the number of a broken rule is no other answer's
+broken-told : (bs : List ℕ) (k : ℕ) → Breaks bs k → answerFrom k 0 ≡ Refused k
+unfolding numbered
+broken-told bs k (Breaks.header-short a) = refl
+broken-told bs k (Breaks.counts a b) = refl
+broken-told bs k (Breaks.offsets a b c) = refl
+broken-told bs k (Breaks.symbol-bad a b c d) = refl
+broken-told bs k (Breaks.production-bad a b c d e) = refl
+broken-told bs k (Breaks.edge-bad a i b c d) = refl
+broken-told bs k (Breaks.edge-order a i b c d e) = refl
+
+-- a list, place by place
+places-told : (l : List ℕ) (i n : ℕ) → length l ≡ i + n → map (λ k. getD l k 0) (upFrom i n) ≡ drop i l
+unfolding upFrom
+places-told l i zero h = sym (drop-of-length-le l {i = i} (omega arith))
+places-told l i (suc n) h =
+    ap (λ (t : List ℕ). getD l i 0 ∷ t) (places-told l (suc i) n (omega arith)) ∙ sym (drop-cons l i 0 (omega arith))
+
+report-told : (r : Report) → answerFrom (numberOf (r .answer)) (productionOf (r .answer)) ≡ r .answer → length (r .root) ≡ 7
+    → unflat (flat r) ≡ r
+unfolding upFrom
+report-told r h l =
+    let root = places-told (r .root) 0 7 l in
+    λ j. record { answer = h j; closures = r .closures; entries = r .entries; passes = r .passes; root = root j }
+
+module _ (bs : List ℕ) (good : refusal bs ≡ 0) where
+  kids-few : (p : ℕ) → kidsIn bs p ≤ 7
+  kids-few p =
+      let slots = slots-seven bs p in
+      let count = length-rights (grammarOf bs) (obeys bs good .0) p in
+      omega (arith, length-take (kidsIn bs p) (production (grammarOf bs) p .slots))
+
+  seven-long : (n : ℕ) (slots : List ℕ) → n ≤ 7 → OthersZero n slots → length slots ≡ 7
+  seven-long n slots few z = ap length z ∙ length-seven (take n slots) (omega (arith, length-take n slots))
+
+  said-told : (limit room : ℕ) (o : Outcome) (a : Answer)
+      → runs.Says (systemIn bs) (In (byNumber (grammarOf bs))) limit room o a
+      → (answerFrom (numberOf a) (productionOf a) ≡ a) × (length (o .report .root) ≡ 7)
+  unfolding numbered
+  said-told limit room o Noncircular s = (refl, ap length (s .1))
+  said-told limit room o (Circular p) s =
+      (refl, seven-long (kidsIn bs p) (o .report .root) (kids-few p) (others bs good (length (o .entries)) p (o .report .root) o (s .kids)))
+  said-told limit room o (Refused k) s = absurd s
+  said-told limit room o OutOfSteps s = (refl, ap length (s .1))
+  said-told limit room o OutOfRoom s = (refl, ap length (s .2))
+
+pub numbers-tell : NumbersTell
+numbers-tell bs limit room = go (either bs)
+  where
+    go : (refusal bs ≡ 0) ⊎ ((k : ℕ) × Breaks bs k) → unflat (flat (back bs limit room .report)) ≡ back bs limit room .report
+    go (inl good) =
+        let t = said-told bs good limit room (back bs limit room) (answer bs limit room) (sound bs good limit room .says) in
+        report-told (back bs limit room .report) (t .0) (t .1)
+    go (inr (k, b)) =
+        subst (λ (o : Outcome). unflat (flat (o .report)) ≡ o .report) (sym (refused bs k b limit room))
+        (report-told _ (broken-told bs k b) refl)
+
+pub program-of-export : ExportAlways
+program-of-export κs a r s promised =
+    let read : unflat (numbersLeft κs s) ≡ promised .report =
+    ap unflat (promised .numbers-are)
+    ∙ ap (λ (x : Report). unflat (flat x)) (promised .tested .report)
+    ∙ numbers-tell (now (a .0)) (a .1 .0) (slices.roomOf (exportLent κs a))
+    ∙ sym (promised .tested .report) in
+    rw read (carried (now (a .0)) (a .1 .0) (exportLent κs a) (promised .report) (exportLeft κs s) (promised .tested))
+
+-- ---- the printed text
+
 pub text-tells : TextTells
 text-tells bs bs′ limit limit′ room room′ h =
     printed-tells (kidsIn bs) (kidsIn bs′) (back bs limit room) (back bs′ limit′ room′) (unprinted-zero bs limit room)
     (unprinted-zero bs′ limit′ room′) h
+
+-- ---- what is lent is untouched
+
+pub touched-falls : TouchedFalls
+touched-falls bs limit k σ r τ b touched p = touched (p .untouched k b)
+
+pub touched-row-falls : TouchedRowFalls
+touched-row-falls bs limit k before r after b touched p = touched (p .untouched k b)

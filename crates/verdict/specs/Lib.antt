@@ -1,4 +1,4 @@
--- The demands, as statements about the rules that the program is proved to follow.
+-- The demands, as statements about the rules that the program is proved to follow, and about every way in.
 pub mod Demands
 pub mod Program
 pub mod Wrong

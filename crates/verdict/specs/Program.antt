@@ -1,17 +1,15 @@
--- The demands of the program's own result: of any report r and slices τ that the test over the lent slices σ may leave. What is asked of an
+-- The demands of a program's own result: of the report r and the slices τ that a test over the lent slices σ leaves. What is asked of an
 -- outcome is asked of what a caller reads, so the shown tree is that of the slices and of the report's root. Assumes nothing.
 use mathlib.Core.List.{List}
 use mathlib.Core.Path.{_≡_}
 use Prim.Native.Nat.{ℕ, _*_, _≤_, _<_}
 use lib.ListN.{length, getD, take, drop}
-use Rattle.numbers.specs.Lists.{written}
 use Rattle.grammar.specs.Rules.{Breaks}
 use Rattle.trees.specs.Tree.{Tree}
 use Rattle.rules.specs.declared.Answer.the-variants.{Noncircular, Circular, OutOfSteps}
 use Rattle.rules.specs.declared.Report.{Report}
-use Rattle.rules.specs.declared.Entry.{Entry}
 use Rattle.rules.specs.Passes.{Outcome, entry}
-use Rattle.passes.specs.Slices.{Slices, roomOf, Tested, readOut}
+use Rattle.passes.specs.Slices.{Slices, roomOf, readOut}
 use Rattle.verdict.specs.Demands.{back, said, NoRuleBroken, TreeOf, shownTree, RefusedExactly, EntryShown, CircularShown, NoncircularNone, LimitsKept, StepsExactly, RoomExactly, RoomCounts, NeverStill, StandsStillLeft}
 
 -- the entry k of what comes back stands at k in the slices
@@ -55,14 +53,3 @@ pub record Program (bs : List ℕ) (limit : ℕ) (σ : Slices) (r : Report) (τ 
   pub untouched : (k : ℕ) → Breaks bs k → τ ≡ σ
   pub whole : readOut r τ ≡ back bs limit (roomOf σ)
   pub demanded : Demanded bs limit (roomOf σ) (readOut r τ)
-
--- of whatever meets the promise of the test
-abbrev pub ProgramAlways : Type 0
-ProgramAlways = (bs : List ℕ) (limit : ℕ) (σ : Slices) (r : Report) (τ : Slices) → Tested bs limit σ r τ → Program bs limit σ r τ
-
--- the same where a row of records is lent, whose front is written over
-abbrev pub RowAlways : Type 0
-RowAlways =
-    (bs : List ℕ) (limit R : ℕ) (r : Report) (before after : List Entry) → r ≡ back bs limit R .report
-    → after ≡ written (back bs limit R .entries) before
-    → Demanded bs limit R (record { report = r; entries = take (r .entries) after })
