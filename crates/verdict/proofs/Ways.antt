@@ -19,7 +19,7 @@ use Rattle.rules.specs.declared.Answer.the-variants.{Noncircular, Circular, Ref
 use Rattle.rules.specs.declared.Report.{Report}
 use Rattle.rules.specs.declared.Entry.{Entry}
 use Rattle.rules.specs.Passes.{Outcome, outcome, numbered, numberOf, productionOf, entry, noEntry, noRoot, empty}
-use Rattle.rules.specs.Test.{systemOf, byNumber}
+use Rattle.rules.specs.Test.{systemOf, systemIn, byNumber}
 use Rattle.rules.proofs.Stored.{length-seven, counted-test, slots-seven}
 use Rattle.passes.specs.Slices as slices
 use Rattle.records.specs.Records.{roomOf, Tested}
