@@ -6,6 +6,7 @@ use native.Mathlib.Omega.{arith}
 use lib.ListN.{length, drop, length-map}
 use lib.Seq.{drop-at}
 use Rattle.numbers.specs.Lists.{written}
+use Rattle.rules.specs.declared.Answer.the-variants.{Refused}
 use Rattle.rules.specs.declared.Report.{Report}
 use Rattle.rules.specs.declared.Entry.{Entry}
 use Rattle.rules.specs.Passes.{Outcome, entry}
@@ -130,7 +131,12 @@ carried bs limit σ r τ promised =
       entries = stands bs limit σ r τ promised;
       rest = rest bs limit σ r τ promised;
       beyond = rest-later bs limit σ r τ promised _ (omega (arith, few bs limit σ r τ promised));
-      untouched = λ k b. rw (untouched bs limit σ r τ promised _ (refused-exactly bs limit (roomOf σ) k .nothing b) refl);
+      untouched = λ k b. untouched bs limit σ r τ promised _ (refused-exactly bs limit (roomOf σ) _ .nothing b) refl;
       whole = w;
       demanded = demanded bs limit (roomOf σ) (readOut r τ) w;
     }
+
+-- whatever number the report refuses by, all that is lent is as before
+pub refused-untouched :
+    (bs : List ℕ) (limit : ℕ) (σ : Slices) (r : Report) (τ : Slices) → Program bs limit σ r τ → (k : ℕ) → r .answer ≡ Refused k → τ ≡ σ
+refused-untouched bs limit σ r τ p k h = p .untouched k (p .demanded .refused k .exactly .0 h)
