@@ -1,4 +1,4 @@
--- Every way to an answer tells the outcome. Assumes nothing.
+-- Every way in carries the demands and tells the outcome. Assumes nothing.
 use mathlib.Core.Path.{_≡_, refl, sym, ap, _∙_, subst}
 use mathlib.Core.List.{List, [], _∷_, map}
 use mathlib.Core.Logic.{_⊎_, inl, inr}
@@ -9,7 +9,7 @@ use lib.Seq.{drop-cons, take-at, getD-take}
 use contract.Monad.{fact-mono}
 use denote.Ref.{now}
 use Rattle.numbers.specs.Lists.{upFrom, written}
-use Rattle.grammar.specs.Grammar.{production, rights}
+use Rattle.grammar.specs.Grammar.{production}
 use Rattle.grammar.specs.Table.{grammarOf}
 use Rattle.grammar.specs.Rules.{Breaks}
 use Rattle.grammar.specs.Refusal.{refusal}
@@ -18,7 +18,7 @@ use Rattle.rules.specs.declared.Answer.{Answer}
 use Rattle.rules.specs.declared.Answer.the-variants.{Noncircular, Circular, Refused, OutOfSteps, OutOfRoom}
 use Rattle.rules.specs.declared.Report.{Report}
 use Rattle.rules.specs.declared.Entry.{Entry}
-use Rattle.rules.specs.Passes.{Outcome, outcome, numbered, numberOf, productionOf, entry, noEntry, noRoot, empty}
+use Rattle.rules.specs.Passes.{Outcome, numbered, numberOf, productionOf, entry, noEntry}
 use Rattle.rules.specs.Test.{systemOf, systemIn, byNumber}
 use Rattle.rules.proofs.Stored.{length-seven, counted-test, slots-seven}
 use Rattle.passes.specs.Slices as slices
