@@ -1,4 +1,4 @@
--- What the functions over a table answer: the check, the header, an edge by its number, the run of a production's edges. Assumes nothing.
+-- What the functions over a table answer: the check, the header, the offsets, an edge by its number, the run of a production's edges. Assumes nothing.
 use mathlib.Core.Bool.{cond}
 use mathlib.Core.List.{List, []}
 use Prim.Native.Nat.{ℕ, zero, suc, _+_, _-_, _*_}
@@ -7,8 +7,9 @@ use lib.ListN.{take, drop}
 use Rattle.grammar.specs.declared.Checked.{Checked}
 use Rattle.grammar.specs.declared.Checked.the-variants.{Good, Refused}
 use Rattle.grammar.specs.declared.Header.{Header}
+use Rattle.grammar.specs.declared.Offsets.{Offsets}
 use Rattle.grammar.specs.declared.Edge.{Edge}
-use Rattle.grammar.specs.Table.{N, P, E, startOf, atEdges, edgeIn}
+use Rattle.grammar.specs.Table.{N, P, E, startOf, atSymbols, atProductions, atEdges, total, edgeIn}
 use Rattle.grammar.specs.Search.{runStart, runEnd}
 
 -- 0 is no refusal, and any other number is that refusal
@@ -18,6 +19,10 @@ checked (suc k) = Refused (suc k)
 
 abbrev pub headerOf : List ℕ → Header
 headerOf bs = record { symbols = N bs; productions = P bs; edges = E bs; start = startOf bs }
+
+-- by their formulas
+abbrev pub offsetsOf : List ℕ → Offsets
+offsetsOf bs = record { symbols = atSymbols; productions = atProductions bs; edges = atEdges bs; total = total bs }
 
 -- the edge record i of a table
 abbrev pub edgeAt : List ℕ → ℕ → Edge

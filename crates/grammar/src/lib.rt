@@ -1,4 +1,28 @@
-// The records that a grammar table is made of, and what reading one gives: the types that the rules and the code share.
+// The numbers and the records that a grammar table is made of, and what reading one gives: what the rules and the code share.
+
+// Of a table, in bytes: its header, and a record of each kind.
+pub const HEADER_BYTES: usize = 24;
+
+pub const SYMBOL_BYTES: usize = 2;
+
+pub const PRODUCTION_BYTES: usize = 18;
+
+pub const EDGE_BYTES: usize = 6;
+
+// The most records of each kind.
+pub const MOST_SYMBOLS: u16 = 256;
+
+pub const MOST_PRODUCTIONS: u16 = 512;
+
+pub const MOST_EDGES: u16 = 8192;
+
+// The most attributes of a symbol, and the most right symbols of a production.
+pub const ATTRIBUTES: usize = 8;
+
+pub const SLOTS: usize = 7;
+
+// The most nodes of a compound graph: an attribute of an occurrence each.
+pub const NODES: usize = ATTRIBUTES * (SLOTS + 1);
 
 // Attributes 0 to `count` - 1; `mask` has a bit for each, set where it is inherited.
 pub struct Symbol {
@@ -6,11 +30,11 @@ pub struct Symbol {
     pub mask: u16,
 }
 
-// Of the seven slots the first `n` are the right symbols.
+// Of the slots the first `n` are the right symbols.
 pub struct Production {
     pub left: u16,
     pub n: u16,
-    pub slots: [u16; 7],
+    pub slots: [u16; SLOTS],
 }
 
 // An attribute of an occurrence of a production: 0 is its left symbol, 1 to n are the right ones.
@@ -32,6 +56,14 @@ pub struct Header {
     pub productions: u16,
     pub edges: u16,
     pub start: u16,
+}
+
+// Where the records of each kind begin, and where the last ends: as wide as in the table.
+pub struct Offsets {
+    pub symbols: u32,
+    pub productions: u32,
+    pub edges: u32,
+    pub total: u32,
 }
 
 // The left symbol of a production, and how many right symbols it has.

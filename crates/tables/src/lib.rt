@@ -7,11 +7,17 @@ ghost use Rattle.grammar.specs.Grammar.{symbol, production};
 ghost use Rattle.grammar.specs.Table.{productionIn, nodeIn, edgeIn, grammarOf};
 ghost use Rattle.grammar.specs.Rules.{noEdge};
 ghost use Rattle.grammar.specs.Search.{further, seek};
-ghost use Rattle.grammar.specs.Reading.{headerOf, edgeAt, runOf};
+ghost use Rattle.grammar.specs.Reading.{headerOf, offsetsOf, edgeAt, runOf};
+use grammar::EDGE_BYTES;
 use grammar::Edge;
+use grammar::HEADER_BYTES;
 use grammar::Header;
 use grammar::Node;
+use grammar::Offsets;
+use grammar::PRODUCTION_BYTES;
 use grammar::Production;
+use grammar::SLOTS;
+use grammar::SYMBOL_BYTES;
 use grammar::Symbol;
 
 pub fn header_of(table: &[u8]) -> Header
@@ -25,26 +31,31 @@ pub fn header_of(table: &[u8]) -> Header
     }
 }
 
-fn at_productions(h: Header) -> usize
-    ensures { λ r. ⌜ r ≡ 24 + 2 * h .symbols ⌝ }
+// By the counts of the header, and not by the offsets that it gives.
+pub fn offsets_of(table: &[u8]) -> Offsets
+    ensures { λ r. ⌜ r ≡ offsetsOf (now (table .entry)) ⌝ }
 {
-    24 + 2 * (h.symbols as usize)
-}
-
-fn at_edges(h: Header) -> usize
-    ensures { λ r. ⌜ r ≡ 24 + 2 * h .symbols + 18 * h .productions ⌝ }
-{
-    24 + 2 * (h.symbols as usize) + 18 * (h.productions as usize)
+    let h = header_of(table);
+    let productions = HEADER_BYTES + SYMBOL_BYTES * (h.symbols as usize);
+    let edges = productions + PRODUCTION_BYTES * (h.productions as usize);
+    let total = edges + EDGE_BYTES * (h.edges as usize);
+    Offsets {
+        symbols: HEADER_BYTES as u32,
+        productions: productions as u32,
+        edges: edges as u32,
+        total: total as u32,
+    }
 }
 
 // The symbol of a number, and one without attributes where there is none.
 pub fn symbol_of(table: &[u8], s: usize) -> Symbol
     ensures { λ r. ⌜ r ≡ symbol (grammarOf (now (table .entry))) s ⌝ }
 {
-    if two_at(table, 0) as usize <= s {
+    let h = header_of(table);
+    if h.symbols as usize <= s {
         return Symbol { count: 0, mask: 0 };
     }
-    let at = 24 + 2 * s;
+    let at = HEADER_BYTES + SYMBOL_BYTES * s;
     Symbol {
         count: byte_at(table, at),
         mask: byte_at(table, at + 1) as u16,
@@ -77,14 +88,15 @@ pub fn production_of(table: &[u8], p: usize) -> Production
 {
     let h = header_of(table);
     if h.productions as usize <= p {
-        let slots = [0u16; 7];
+        let slots = [0u16; SLOTS];
         return Production {
             left: 0,
             n: 0,
             slots,
         };
     }
-    production_in(table, at_productions(h) + 18 * p)
+    let o = offsets_of(table);
+    production_in(table, o.productions as usize + PRODUCTION_BYTES * p)
 }
 
 fn node_in(table: &[u8], at: usize) -> Node
@@ -130,45 +142,36 @@ fn no_edge() -> Edge
 pub fn edge_at(table: &[u8], i: usize) -> Edge
     ensures { λ r. ⌜ r ≡ edgeAt (now (table .entry)) i ⌝ }
 {
-    if table.len() / 6 < i {
+    if table.len() / EDGE_BYTES < i {
         return no_edge();
     }
-    edge_in(table, at_edges(header_of(table)) + 6 * i)
-}
-
-// The edge i of a run of edges. Past the end all its numbers are 0.
-pub fn edge_of(run: &[u8], i: usize) -> Edge
-    ensures { λ r. ⌜ r ≡ edgeIn (now (run .entry)) (6 * i) ⌝ }
-{
-    if run.len() / 6 < i {
-        return no_edge();
-    }
-    edge_in(run, 6 * i)
+    let o = offsets_of(table);
+    edge_in(table, o.edges as usize + EDGE_BYTES * i)
 }
 
 // One step of the search for the first edge that is not of a production below p.
-fn step_further(table: &[u8], h: Header, p: usize, step: usize, at: usize) -> usize
-    requires { ⌜ (h ≡ headerOf (now table)) × (1 ≤ step) × (step < 65536) × (at ≤ h .edges) ⌝ }
+fn step_further(table: &[u8], h: Header, o: Offsets, p: usize, step: usize, at: usize) -> usize
+    requires { ⌜ (h ≡ headerOf (now table)) × (o ≡ offsetsOf (now table)) × (1 ≤ step) × (step < 65536) × (at ≤ h .edges) ⌝ }
     ensures { λ r. ⌜ r ≡ further (now (table .entry)) p step at ⌝ }
 {
     let next = at + step;
     if (h.edges as usize) < next {
         return at;
     }
-    let last = two_at(table, at_edges(h) + 6 * (next - 1));
+    let last = two_at(table, o.edges as usize + EDGE_BYTES * (next - 1));
     if (last as usize) < p { next } else { at }
 }
 
 // From the edge `from` on, the first that is not of a production below p, by halving.
-fn seek_from(table: &[u8], h: Header, p: usize, from: usize) -> usize
-    requires { ⌜ (h ≡ headerOf (now table)) × (from ≤ h .edges) ⌝ }
+fn seek_from(table: &[u8], h: Header, o: Offsets, p: usize, from: usize) -> usize
+    requires { ⌜ (h ≡ headerOf (now table)) × (o ≡ offsetsOf (now table)) × (from ≤ h .edges) ⌝ }
     ensures { λ r. ⌜ (r ≡ seek 16 (now (table .entry)) p from) × (from ≤ r) × (r ≤ h .edges) ⌝ }
 {
     let mut at = from;
     let mut k: usize = 16;
     while 0 < k {
         k -= 1;
-        at = step_further(table, h, p, 1usize << k, at);
+        at = step_further(table, h, o, p, 1usize << k, at);
     }
     at
 }
@@ -187,10 +190,10 @@ pub fn run_of(table: &[u8], p: usize) -> &[u8]
     if h.productions as usize <= p {
         return &table[..0];
     }
-    let first = seek_from(table, h, p, 0);
-    let end = seek_from(table, h, p + 1, first);
-    let at = at_edges(h);
-    let a = within(at + 6 * first, table.len());
-    let e = within(at + 6 * end, table.len());
+    let o = offsets_of(table);
+    let first = seek_from(table, h, o, p, 0);
+    let end = seek_from(table, h, o, p + 1, first);
+    let a = within(o.edges as usize + EDGE_BYTES * first, table.len());
+    let e = within(o.edges as usize + EDGE_BYTES * end, table.len());
     &table[a..e]
 }

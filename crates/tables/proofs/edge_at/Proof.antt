@@ -16,11 +16,11 @@ returns c =
     let a = c .before .before .before .args in
     c .no-edge .ensures ∙ sym (edge-past (a .table .now) (atEdges (a .table .now) + 6 * a .i) (omega arith))
 
-header-of-requires : tie.Need-header-of-requires
-header-of-requires c κs = search needs
+offsets-of-requires : tie.Need-offsets-of-requires
+offsets-of-requires c κs = search needs
 
-at-edges-requires : tie.Need-at-edges-requires
-at-edges-requires c κs = search needs
+cast-edge-in : tie.Need-cast-edge-in
+cast-edge-in c = search needs
 
 mul-edge-in : tie.Need-mul-edge-in
 mul-edge-in c = search needs
@@ -34,8 +34,7 @@ edge-in-requires c κs = search needs
 returns-2 : tie.Need-returns-2
 returns-2 c =
     let a = c .before .before .before .before .before .args in
-    let at = c .before .at-edges .ensures ∙ ap (λ h. 24 + 2 * h .symbols + 18 * h .productions) (c .before .before .header-of .ensures) in
-    c .edge-in .ensures ∙ ap (λ at. edgeIn (a .table .now) (at + 6 * a .i)) at
+    c .edge-in .ensures ∙ ap (λ o. edgeIn (a .table .now) (o .edges + 6 * a .i)) (c .before .before .offsets-of .ensures)
 
 pub edge-at-spec : {M : Type 1} → statement M
 edge-at-spec =
@@ -43,8 +42,8 @@ edge-at-spec =
     (tie.spec
     no-edge-requires
     returns
-    header-of-requires
-    at-edges-requires
+    offsets-of-requires
+    cast-edge-in
     mul-edge-in
     add-edge-in
     edge-in-requires

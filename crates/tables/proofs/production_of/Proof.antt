@@ -20,8 +20,11 @@ returns c =
     let many = ap (λ h. h .productions) (c .before .before .header-of .ensures) in
     sym (production-none (a .table .now) (a .p) (omega arith))
 
-at-productions-requires : tie.Need-at-productions-requires
-at-productions-requires c κs = search needs
+offsets-of-requires : tie.Need-offsets-of-requires
+offsets-of-requires c κs = search needs
+
+cast-production-in : tie.Need-cast-production-in
+cast-production-in c = search needs
 
 mul-production-in : tie.Need-mul-production-in
 mul-production-in c = search needs
@@ -34,12 +37,10 @@ production-in-requires c κs = search needs
 
 returns-2 : tie.Need-returns-2
 returns-2 c =
-    let a = c .before .before .before .before .before .before .args in
-    let h = c .before .before .before .before .header-of .ensures in
-    let many = ap (λ h. h .productions) h in
-    let at = c .before .at-productions .ensures ∙ ap (λ h. 24 + 2 * h .symbols) h in
+    let a = c .before .before .before .before .before .before .before .args in
+    let many = ap (λ h. h .productions) (c .before .before .before .before .before .header-of .ensures) in
     c .production-in .ensures
-    ∙ ap (λ at. productionIn (a .table .now) (at + 18 * a .p)) at
+    ∙ ap (λ o. productionIn (a .table .now) (o .productions + 18 * a .p)) (c .before .before .offsets-of .ensures)
     ∙ sym (production-there (a .table .now) (a .p) (omega arith))
 
 pub production-of-spec : {M : Type 1} → statement M
@@ -49,7 +50,8 @@ production-of-spec =
     header-of-requires
     cast-if1
     returns
-    at-productions-requires
+    offsets-of-requires
+    cast-production-in
     mul-production-in
     add-production-in
     production-in-requires

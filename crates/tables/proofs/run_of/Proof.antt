@@ -22,6 +22,9 @@ returns c =
     let many = ap (λ h. h .productions) (c .before .before .before .header-of .ensures) in
     sym (run-none (c .before .before .before .before .before .args .table .now) (c .before .before .before .before .before .args .p) (omega arith))
 
+offsets-of-requires : tie.Need-offsets-of-requires
+offsets-of-requires c κs = search needs
+
 seek-from-requires : tie.Need-seek-from-requires
 seek-from-requires c κs = search needs
 
@@ -31,8 +34,8 @@ add-seek-from c = search needs
 seek-from-requires-2 : tie.Need-seek-from-requires-2
 seek-from-requires-2 c κs = search needs
 
-at-edges-requires : tie.Need-at-edges-requires
-at-edges-requires c κs = search needs
+cast-within : tie.Need-cast-within
+cast-within c = search needs
 
 mul-within : tie.Need-mul-within
 mul-within c = search needs
@@ -42,6 +45,9 @@ add-within c = search needs
 
 within-requires : tie.Need-within-requires
 within-requires c κs = search needs
+
+cast-within-2 : tie.Need-cast-within-2
+cast-within-2 c = search needs
 
 mul-within-2 : tie.Need-mul-within-2
 mul-within-2 c = search needs
@@ -63,16 +69,15 @@ part-result-end c = search needs
 
 returns-2 : tie.Need-returns-2
 returns-2 c =
-    let bs = c .before .before .before .before .before .before .before .before .before .before .args .table .now in
-    let h = c .before .before .before .before .before .before .before .before .header-of .ensures in
-    let many = ap (λ h. h .productions) h in
-    let at = c .before .before .before .at-edges .ensures ∙ ap (λ h. 24 + 2 * h .symbols + 18 * h .productions) h in
-    let first = c .before .before .before .before .before .seek-from in
-    let end = c .before .before .before .before .seek-from2 in
-    let a = c .before .before .within .ensures ∙ ap (λ at. min (at + 6 * first .result) (length bs)) at in
-    let e = c .before .within2 .ensures ∙ ap (λ at. min (at + 6 * end .result) (length bs)) at in
+    let bs = c .before .before .before .before .before .before .before .before .before .before .before .before .args .table .now in
+    let many = ap (λ h. h .productions) (c .before .before .before .before .before .before .before .before .before .before .header-of .ensures) in
+    let o = c .before .before .before .before .before .before .before .offsets-of .ensures in
+    let first = c .before .before .before .before .before .before .seek-from in
+    let end = c .before .before .before .before .before .seek-from2 in
+    let a = c .before .before .before .within .ensures ∙ ap (λ o. min (o .edges + 6 * first .result) (length bs)) o in
+    let e = c .before .within2 .ensures ∙ ap (λ o. min (o .edges + 6 * end .result) (length bs)) o in
     ap₂ (λ a e. take (e - a) (drop a bs)) a e
-    ∙ run-found bs (c .before .before .before .before .before .before .before .before .before .before .args .p) _ _ (omega arith) (first .ensures .0) (end .ensures .0) (end .ensures .1)
+    ∙ run-found bs (c .before .before .before .before .before .before .before .before .before .before .before .before .args .p) _ _ (omega arith) (first .ensures .0) (end .ensures .0) (end .ensures .1)
 
 pub run-of-spec : {M : Type 1} → statement M
 run-of-spec =
@@ -82,13 +87,15 @@ run-of-spec =
     cast-if1
     slice-aggregate-result
     returns
+    offsets-of-requires
     seek-from-requires
     add-seek-from
     seek-from-requires-2
-    at-edges-requires
+    cast-within
     mul-within
     add-within
     within-requires
+    cast-within-2
     mul-within-2
     add-within-2
     within-requires-2

@@ -9,11 +9,11 @@ use Rattle.tables.proofs.seek_from.Statement.{statement}
 use Rattle.tables.proofs.seek_from.Tie as tie
 
 abbrev Inv-loop : tie.InvT-loop
-Inv-loop table h p from at₀ k₀ at k =
+Inv-loop table h o p from at₀ k₀ at k =
     (k ≤ 16) × (from ≤ at) × (at ≤ h .edges) × (seek k table p at ≡ seek 16 table p from)
 
 abbrev μ-loop : tie.MeasureT-loop
-μ-loop table h p from at₀ k₀ at k = k
+μ-loop table h o p from at₀ k₀ at k = k
 
 loop-holds : tie.Need-loop-holds Inv-loop μ-loop
 loop-holds c = (search needs, search needs, search needs, refl)
@@ -27,7 +27,7 @@ shl-step-further c = search needs
 step-further-requires : tie.Need-step-further-requires Inv-loop μ-loop
 step-further-requires c κs =
     let r = step-range (c .before .loop .k - 1) (omega arith) in
-    (c .before .before .before .pre .0, omega arith, omega arith, c .before .loop .inv .2)
+    (c .before .before .before .pre .0, c .before .before .before .pre .1, omega arith, omega arith, c .before .loop .inv .2)
 
 loop-less : tie.Need-loop-less Inv-loop μ-loop
 loop-less c = search needs

@@ -21,8 +21,8 @@ returns c =
     let e = ap (λ h. h .edges) (c .before .before .before .pre .0) in
     sym (further-few (a .table .now) (a .p) (a .step) (a .at) (omega arith))
 
-at-edges-requires : tie.Need-at-edges-requires
-at-edges-requires c κs = search needs
+cast-two-at : tie.Need-cast-two-at
+cast-two-at c = search needs
 
 sub-two-at : tie.Need-sub-two-at
 sub-two-at c = search needs
@@ -42,19 +42,17 @@ cast-if2 c = search needs
 returns-2 : tie.Need-returns-2
 returns-2 c =
     let a = c .before .before .before .before .before .before .args in
-    let h = c .before .before .before .before .before .before .pre .0 in
-    let e = ap (λ h. h .edges) h in
-    let at = c .before .before .at-edges .ensures ∙ ap (λ h. 24 + 2 * h .symbols + 18 * h .productions) h in
-    let last : c .before .two-at .result ≡ producing (a .table .now) (a .at + a .step - 1) = c .before .two-at .ensures ∙ ap (λ at. le2 (a .table .now) (at + 6 * (a .at + a .step - 1))) at in
+    let pre = c .before .before .before .before .before .before .pre in
+    let e = ap (λ h. h .edges) (pre .0) in
+    let last : c .before .two-at .result ≡ producing (a .table .now) (a .at + a .step - 1) = c .before .two-at .ensures ∙ ap (λ o. le2 (a .table .now) (o .edges + 6 * (a .at + a .step - 1))) (pre .1) in
     sym (further-on (a .table .now) (a .p) (a .step) (a .at) (omega arith) (omega arith))
 
 returns-3 : tie.Need-returns-3
 returns-3 c =
     let a = c .before .before .before .before .before .before .args in
-    let h = c .before .before .before .before .before .before .pre .0 in
-    let e = ap (λ h. h .edges) h in
-    let at = c .before .before .at-edges .ensures ∙ ap (λ h. 24 + 2 * h .symbols + 18 * h .productions) h in
-    let last : c .before .two-at .result ≡ producing (a .table .now) (a .at + a .step - 1) = c .before .two-at .ensures ∙ ap (λ at. le2 (a .table .now) (at + 6 * (a .at + a .step - 1))) at in
+    let pre = c .before .before .before .before .before .before .pre in
+    let e = ap (λ h. h .edges) (pre .0) in
+    let last : c .before .two-at .result ≡ producing (a .table .now) (a .at + a .step - 1) = c .before .two-at .ensures ∙ ap (λ o. le2 (a .table .now) (o .edges + 6 * (a .at + a .step - 1))) (pre .1) in
     sym (further-not (a .table .now) (a .p) (a .step) (a .at) (omega arith) (omega arith))
 
 pub step-further-spec : {M : Type 1} → statement M
@@ -64,7 +62,7 @@ step-further-spec =
     add-next
     cast-if1
     returns
-    at-edges-requires
+    cast-two-at
     sub-two-at
     mul-two-at
     add-two-at
