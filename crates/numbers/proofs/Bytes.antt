@@ -4,7 +4,7 @@ use mathlib.Core.List.{List}
 use Prim.Native.Nat.{ℕ, _+_, _≤_}
 use native.Mathlib.Omega.{arith}
 use lib.ListN.{length, getD, List·getD-eq-default}
-use Rattle.numbers.specs.Number.{le2, le4}
+use Rattle.numbers.specs.Number.{le2}
 
 module _ (bs : List ℕ) where
   pub byte-past : (i : ℕ) → length bs ≤ i → getD bs i 0 ≡ 0
@@ -12,6 +12,3 @@ module _ (bs : List ℕ) where
 
   pub le2-past : (i : ℕ) → length bs ≤ i → le2 bs i ≡ 0
   le2-past i past = omega (arith, byte-past i past, byte-past (i + 1) (omega arith))
-
-  pub le4-past : (i : ℕ) → length bs ≤ i → le4 bs i ≡ 0
-  le4-past i past = omega (arith, le2-past i past, le2-past (i + 2) (omega arith))
