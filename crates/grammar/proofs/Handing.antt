@@ -8,7 +8,9 @@ use native.Mathlib.Numerals.{add-one}
 use native.Mathlib.Omega.{arith}
 use types.Run.{OneOf, miss}
 use denote.Enum.Declared.{tagOf}
-use Rattle.numbers.specs.Lists.{below, upFrom}
+use lib.ListN.{length, getD, drop}
+use Rattle.numbers.specs.Lists.{every, below, upFrom}
+use Rattle.numbers.proofs.Every.{passes-at, fails-at, passes-all}
 use Rattle.numbers.proofs.Ranges.{left-some, left-none}
 use Rattle.grammar.specs.declared.Edge.{Edge}
 use Rattle.grammar.specs.declared.Checked.{Checked}
@@ -150,7 +152,33 @@ module _ (bs : List ℕ) (before : Edge) where
         ∙ passed _ _ _ (good .0) (above .0)
         ∙ ap (λ e. edgesLeft (grammarOf bs) (i + 1) e (edgesAfter bs (i + 1))) same)
 
--- ---- a whole table of records
+-- ---- a whole table of records, read by number: what is left from i on passes the test exactly if all of them do
+module _ {A : Type 0} (ok : A → Bool) (read : A → Read) (k : ℕ) (l : List A) (d : A) (i : ℕ) where
+  pub records-stop :
+      i < length l
+      → every ok (drop i l) ≡ every ok l
+      → (tags : List ℕ)
+      → (OneOf tags (tagOf the-type (read (getD l i d))) → ⊥)
+      → OneOf tags (tagOf the-type (orRefused (ok (getD l i d)) (read (getD l i d)) k))
+      → handedUp (orRefused (ok (getD l i d)) (read (getD l i d)) k) ≡ whole k (every ok l)
+  unfolding whole
+  records-stop h e tags n t =
+      let bad = refused _ _ k tags n t in
+      ap handedUp (lost _ (read (getD l i d)) k bad) ∙ ap (whole k) (sym (fails-at ok l d i h bad) ∙ e)
+
+  pub records-go :
+      i < length l
+      → every ok (drop i l) ≡ every ok l
+      → (y : Read)
+      → (tagOf the-type y ≡ 3 → ⊥)
+      → orRefused (ok (getD l i d)) (read (getD l i d)) k ≡ y
+      → every ok (drop (i + 1) l) ≡ every ok l
+  records-go h e y n q = passes-at ok l d i h (fine _ _ k y n q .0) ∙ e
+
+  pub records-done : length l ≤ i → every ok (drop i l) ≡ every ok l → Checked.Good ≡ whole k (every ok l)
+  unfolding whole
+  records-done h e = ap (whole k) (sym (passes-all ok l d i h) ∙ e)
+
 pub whole-good : (k : ℕ) (b : Bool) → whole k b ≡ Checked.Good → b ≡ true
 unfolding whole
 whole-good k true e = refl

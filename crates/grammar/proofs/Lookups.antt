@@ -34,6 +34,10 @@ module _ (bs : List ℕ) where
   unfolding grammarOf
   edge-there i h = at-below _ noEdge (E bs) i h
 
+  pub symbols-many : length (grammarOf bs .symbols) ≡ N bs
+  unfolding grammarOf
+  symbols-many = length-map (upFrom 0 (N bs)) _ ∙ length-upFrom 0 (N bs)
+
   pub productions-many : length (grammarOf bs .productions) ≡ P bs
   unfolding grammarOf
   productions-many = length-map (upFrom 0 (P bs)) _ ∙ length-upFrom 0 (P bs)

@@ -1,4 +1,4 @@
--- What the parts of the check answer. No promise of a public function speaks of it. Assumes nothing.
+-- What the parts of the check answer. What is promised of the whole check does not speak of it. Assumes nothing.
 use mathlib.Core.Bool.{Bool, true, false}
 use mathlib.Core.List.{List}
 use Prim.Native.Nat.{ℕ, zero, suc}

@@ -1,13 +1,12 @@
--- A test over a list, element by element: of a list, of what is left of it from k on, and of a list made of a range. Assumes nothing.
+-- A test over a list, element by element: of a list, and of what is left of it from k on. Assumes nothing.
 use mathlib.Core.Path.{_≡_, refl, sym, ap, _∙_}
 use mathlib.Core.Bool.{Bool, true, false}
-use mathlib.Core.List.{List, [], _∷_, map}
-use Prim.Native.Nat.{ℕ, _+_, _-_, _≤_, _<_}
+use mathlib.Core.List.{List, [], _∷_}
+use Prim.Native.Nat.{ℕ, _+_, _≤_, _<_}
 use native.Mathlib.Numerals.{add-one}
 use lib.ListN.{length, getD, drop, drop-of-length-le}
 use lib.Seq.{drop-cons}
-use Rattle.numbers.specs.Lists.{both, every, upFrom}
-use Rattle.numbers.proofs.Ranges.{left-some, left-none}
+use Rattle.numbers.specs.Lists.{both, every}
 
 module _ {A : Type 0} (f : A → Bool) where
   pub every-none : every f [] ≡ true
@@ -34,13 +33,3 @@ module _ {A : Type 0} (f : A → Bool) where
 
     pub passes-all : length l ≤ k → every f (drop k l) ≡ true
     passes-all h = ap (every f) (drop-of-length-le l h) ∙ every-none
-
-  module _ (g : ℕ → A) (i n : ℕ) where
-    pub passes-in : i < n → f (g i) ≡ true → every f (map g (upFrom (i + 1) (n - (i + 1)))) ≡ every f (map g (upFrom i (n - i)))
-    passes-in h t = sym (ap (λ l. every f (map g l)) (left-some i n h) ∙ every-passes _ _ t)
-
-    pub fails-in : i < n → f (g i) ≡ false → every f (map g (upFrom i (n - i))) ≡ false
-    fails-in h t = ap (λ l. every f (map g l)) (left-some i n h) ∙ every-fails _ _ t
-
-    pub passes-range : n ≤ i → every f (map g (upFrom i (n - i))) ≡ true
-    passes-range h = ap (λ l. every f (map g l)) (left-none i n h) ∙ every-none

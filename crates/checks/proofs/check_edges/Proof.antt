@@ -24,8 +24,8 @@ Inv-loop table count before₀ i₀ before i =
 abbrev μ-loop : tie.MeasureT-loop
 μ-loop table count before₀ i₀ before i = count - i
 
-two-at-requires : tie.Need-two-at-requires Inv-loop μ-loop
-two-at-requires c κs = search needs
+header-of-requires : tie.Need-header-of-requires Inv-loop μ-loop
+header-of-requires c κs = search needs
 
 cast-count : tie.Need-cast-count Inv-loop μ-loop
 cast-count c = search needs
@@ -35,7 +35,7 @@ edge-at-requires c κs = search needs
 
 loop-holds : tie.Need-loop-holds Inv-loop μ-loop
 loop-holds c =
-    (search needs, c .before .two-at .ensures, edges-whole (c .before .before .before .args .table .now) (c .edge-at .result))
+    (search needs, ap (λ h. h .edges) (c .before .before .header-of .ensures), edges-whole (c .before .before .before .before .args .table .now) (c .edge-at .result))
 
 read-edge-requires : tie.Need-read-edge-requires Inv-loop μ-loop
 read-edge-requires c κs = search needs
@@ -48,14 +48,11 @@ handed-up-requires c κs = search needs
 
 returns : tie.Need-returns Inv-loop μ-loop
 returns c =
-    let bs = c .before .before .before .before .before .before .before .before .args .table .now in
-    let i = c .before .before .before .before .loop .i in
+    let bs = c .before .before .before .before .before .before .before .before .before .args .table .now in
+    let at = c .before .before .before .before .loop in
     let q = c .before .before .read-edge .ensures in
     let k = subst (λ r. OneOf (0 ∷ 1 ∷ 3 ∷ []) (tagOf the-type r)) q (c .before .match .keys2) in
-    c .handed-up .ensures
-    ∙ ap handedUp q
-    ∙ edges-stop bs (c .before .before .before .before .loop .before) i (omega arith) k
-    ∙ ap checked (c .before .before .before .before .loop .inv .2)
+    c .handed-up .ensures ∙ ap handedUp q ∙ edges-stop bs (at .before) (at .i) (omega arith) k ∙ ap checked (at .inv .2)
 
 add-i : tie.Need-add-i Inv-loop μ-loop
 add-i c = search needs
@@ -65,16 +62,17 @@ loop-less c = search needs
 
 loop-again : tie.Need-loop-again Inv-loop μ-loop
 loop-again c =
-    let bs = c .before .before .before .before .before .before .before .before .before .args .table .now in
-    let i = c .before .before .before .before .before .loop .i in
+    let bs = c .before .before .before .before .before .before .before .before .before .before .args .table .now in
+    let at = c .before .before .before .before .before .loop in
     let q = sym (c .before .before .before .read-edge .ensures) ∙ c .before .read .given .1 in
-    (omega arith, c .before .before .before .before .before .loop .inv .1, edges-go bs (c .before .before .before .before .before .loop .before) i (omega arith) _ q ∙ c .before .before .before .before .before .loop .inv .2)
+    (omega arith, at .inv .1, edges-go bs (at .before) (at .i) (omega arith) _ q ∙ at .inv .2)
 
 returns-2 : tie.Need-returns-2 Inv-loop μ-loop
 unfolding checked
 returns-2 c =
-    let bs = c .before .before .before .before .before .args .table .now in
-    ap checked (sym (edges-done bs (c .before .loop .before) (c .before .loop .i) (omega arith)) ∙ c .before .loop .inv .2)
+    let bs = c .before .before .before .before .before .before .args .table .now in
+    let at = c .before .loop in
+    ap checked (sym (edges-done bs (at .before) (at .i) (omega arith)) ∙ at .inv .2)
 
 pub check-edges-spec : {M : Type 1} → statement M
 check-edges-spec =
@@ -82,7 +80,7 @@ check-edges-spec =
     (tie.spec
     Inv-loop
     μ-loop
-    two-at-requires
+    header-of-requires
     cast-count
     edge-at-requires
     loop-holds

@@ -1,42 +1,39 @@
 -- `checks::check_productions` meets its contract. What is left of the productions, from p on, passes the test exactly if all of them do. Assumes nothing.
-use mathlib.Core.Path.{_≡_, sym, ap, subst, _∙_}
-use mathlib.Core.List.{[], _∷_, map}
-use Prim.Native.Nat.{_≤_, _<_, _+_, _-_, _*_}
+use mathlib.Core.Path.{_≡_, refl, sym, ap, subst, _∙_}
+use mathlib.Core.List.{[], _∷_}
+use Prim.Native.Nat.{_≤_, _-_}
 use native.Mathlib.Omega.{arith}
-use native.Mathlib.Nat.{sub-zero}
 use borrow.Author.Needs.{needs}
 use types.Run.{OneOf, miss}
 use denote.Enum.Declared.{tagOf}
-use Rattle.numbers.specs.Lists.{every, upFrom}
-use Rattle.numbers.proofs.Every.{passes-in, fails-in, passes-range}
-use Rattle.grammar.specs.Steps.{handedUp, whole}
+use lib.ListN.{drop}
+use Rattle.numbers.specs.Lists.{every}
+use Rattle.grammar.specs.declared.Read.{Read}
+use Rattle.grammar.specs.Grammar.{noProduction}
+use Rattle.grammar.specs.Table.{N, P, grammarOf}
 use Rattle.grammar.specs.Refusal.{productionOk}
-use Rattle.grammar.specs.Table.{N, P, atProductions, productionIn, grammarOf}
-use Rattle.grammar.proofs.Handing.{lost, fine, refused}
-use Rattle.grammar.proofs.Lookups.{production-there}
+use Rattle.grammar.specs.Steps.{handedUp}
+use Rattle.grammar.proofs.Handing.{records-stop, records-go, records-done}
+use Rattle.grammar.proofs.Lookups.{productions-many}
 use Rattle.grammar.proofs.Read.{the-type}
 use Rattle.checks.proofs.check_productions.Statement.{statement}
 use Rattle.checks.proofs.check_productions.Tie as tie
 
 abbrev Inv-loop : tie.InvT-loop
 Inv-loop table count p₀ p =
-    (p ≤ count)
-    × (count ≡ P table)
-    × (every (productionOk (N table)) (map (λ i. productionIn table (atProductions table + 18 * i)) (upFrom p (P table - p)))
-    ≡ every (productionOk (N table)) (grammarOf table .productions))
+    (p ≤ count) × (count ≡ P table) × (every (productionOk (N table)) (drop p (grammarOf table .productions)) ≡ every (productionOk (N table)) (grammarOf table .productions))
 
 abbrev μ-loop : tie.MeasureT-loop
 μ-loop table count p₀ p = count - p
 
-two-at-requires : tie.Need-two-at-requires Inv-loop μ-loop
-two-at-requires c κs = search needs
+header-of-requires : tie.Need-header-of-requires Inv-loop μ-loop
+header-of-requires c κs = search needs
 
 cast-count : tie.Need-cast-count Inv-loop μ-loop
 cast-count c = search needs
 
 loop-holds : tie.Need-loop-holds Inv-loop μ-loop
-unfolding grammarOf
-loop-holds c = (search needs, c .two-at .ensures, rw sub-zero)
+loop-holds c = (search needs, ap (λ h. h .productions) (c .before .header-of .ensures), refl)
 
 read-production-requires : tie.Need-read-production-requires Inv-loop μ-loop
 read-production-requires c κs = search needs
@@ -48,16 +45,14 @@ handed-up-requires : tie.Need-handed-up-requires Inv-loop μ-loop
 handed-up-requires c κs = search needs
 
 returns : tie.Need-returns Inv-loop μ-loop
-unfolding whole
 returns c =
-    let bs = c .before .before .before .before .before .before .before .args .table .now in
-    let p = c .before .before .before .before .loop .p in
-    let h : p < P bs = omega arith in
+    let bs = c .before .before .before .before .before .before .before .before .args .table .now in
+    let at = c .before .before .before .before .loop in
     let q = c .before .before .read-production .ensures in
     let t = subst (λ r. OneOf (0 ∷ 2 ∷ 3 ∷ []) (tagOf the-type r)) q (c .before .match .keys2) in
-    let bad = refused _ _ 5 (0 ∷ 2 ∷ 3 ∷ []) (miss (0 ∷ 2 ∷ 3 ∷ []) 1 tt) t in
-    let all = fails-in (productionOk (N bs)) (λ i. productionIn bs (atProductions bs + 18 * i)) p (P bs) h (ap (productionOk (N bs)) (sym (production-there bs p h)) ∙ bad) in
-    c .handed-up .ensures ∙ ap handedUp (q ∙ lost _ _ 5 bad) ∙ ap (whole 5) (sym all ∙ c .before .before .before .before .loop .inv .2)
+    c .handed-up .ensures
+    ∙ ap handedUp q
+    ∙ records-stop (productionOk (N bs)) (λ p. Read.Production (record { left = p .left; n = p .n })) 5 (grammarOf bs .productions) noProduction (at .p) (omega (arith, productions-many bs)) (at .inv .2) (0 ∷ 2 ∷ 3 ∷ []) (miss (0 ∷ 2 ∷ 3 ∷ []) 1 tt) t
 
 add-p : tie.Need-add-p Inv-loop μ-loop
 add-p c = search needs
@@ -67,20 +62,16 @@ loop-less c = search needs
 
 loop-again : tie.Need-loop-again Inv-loop μ-loop
 loop-again c =
-    let bs = c .before .before .before .before .before .before .before .args .table .now in
-    let p = c .before .before .before .before .loop .p in
-    let h : p < P bs = omega arith in
-    let good = fine _ _ 5 _ (λ e. omega arith) (sym (c .before .before .read-production .ensures) ∙ c .enum-told .given .1) .0 in (
-      omega arith,
-      c .before .before .before .before .loop .inv .1,
-      passes-in (productionOk (N bs)) (λ i. productionIn bs (atProductions bs + 18 * i)) p (P bs) h (ap (productionOk (N bs)) (sym (production-there bs p h)) ∙ good) ∙ c .before .before .before .before .loop .inv .2,
-    )
+    let bs = c .before .before .before .before .before .before .before .before .args .table .now in
+    let at = c .before .before .before .before .loop in
+    let q = sym (c .before .before .read-production .ensures) ∙ c .enum-told .given .1 in
+    (omega arith, at .inv .1, records-go (productionOk (N bs)) (λ p. Read.Production (record { left = p .left; n = p .n })) 5 (grammarOf bs .productions) noProduction (at .p) (omega (arith, productions-many bs)) (at .inv .2) _ (λ e. omega arith) q)
 
 returns-2 : tie.Need-returns-2 Inv-loop μ-loop
-unfolding whole
 returns-2 c =
-    let bs = c .before .before .before .before .args .table .now in
-    ap (whole 5) (sym (passes-range (productionOk (N bs)) (λ i. productionIn bs (atProductions bs + 18 * i)) (c .before .loop .p) (P bs) (omega arith)) ∙ c .before .loop .inv .2)
+    let bs = c .before .before .before .before .before .args .table .now in
+    let at = c .before .loop in
+    records-done (productionOk (N bs)) (λ p. Read.Production (record { left = p .left; n = p .n })) 5 (grammarOf bs .productions) noProduction (at .p) (omega (arith, productions-many bs)) (at .inv .2)
 
 pub check-productions-spec : {M : Type 1} → statement M
 check-productions-spec =
@@ -88,7 +79,7 @@ check-productions-spec =
     (tie.spec
     Inv-loop
     μ-loop
-    two-at-requires
+    header-of-requires
     cast-count
     loop-holds
     read-production-requires

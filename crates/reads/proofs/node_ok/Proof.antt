@@ -1,4 +1,4 @@
--- `checks::node_ok` meets its contract. Assumes nothing.
+-- `reads::node_ok` meets its contract. Assumes nothing.
 use mathlib.Core.Path.{sym, ap, _∙_}
 use native.Mathlib.Omega.{arith}
 use borrow.Author.Needs.{needs}
@@ -7,8 +7,8 @@ use Rattle.numbers.proofs.Decides.{not-so, same-test, lt-decides}
 use Rattle.grammar.specs.Grammar.{symbol, symbolAt}
 use Rattle.grammar.specs.Table.{grammarOf}
 use Rattle.grammar.proofs.Decided.{node-decides}
-use Rattle.checks.proofs.node_ok.Statement.{statement}
-use Rattle.checks.proofs.node_ok.Tie as tie
+use Rattle.reads.proofs.node_ok.Statement.{statement}
+use Rattle.reads.proofs.node_ok.Tie as tie
 
 cast-if1 : tie.Need-cast-if1
 cast-if1 c = search needs

@@ -1,11 +1,11 @@
--- `checks::read_edge` meets its contract. Assumes nothing.
+-- `reads::read_edge` meets its contract. Assumes nothing.
 use mathlib.Core.Path.{sym, ap, _∙_}
 use borrow.Author.Tests.{not-true, not-false}
 use borrow.Author.Needs.{needs}
 use Rattle.grammar.specs.Steps.{edgeRead}
 use Rattle.grammar.proofs.Handing.{kept, lost}
-use Rattle.checks.proofs.read_edge.Statement.{statement}
-use Rattle.checks.proofs.read_edge.Tie as tie
+use Rattle.reads.proofs.read_edge.Statement.{statement}
+use Rattle.reads.proofs.read_edge.Tie as tie
 
 edge-at-requires : tie.Need-edge-at-requires
 edge-at-requires c κs = search needs

@@ -1,12 +1,12 @@
--- `checks::read_symbol` meets its contract. Assumes nothing.
+-- `reads::read_symbol` meets its contract. Assumes nothing.
 use mathlib.Core.Path.{sym, ap, _∙_}
 use borrow.Author.Needs.{needs}
 use Rattle.grammar.specs.declared.Read.{Read}
 use Rattle.grammar.specs.Table.{attributes}
 use Rattle.grammar.specs.Steps.{symbolRead}
 use Rattle.grammar.proofs.Handing.{kept, lost}
-use Rattle.checks.proofs.read_symbol.Statement.{statement}
-use Rattle.checks.proofs.read_symbol.Tie as tie
+use Rattle.reads.proofs.read_symbol.Statement.{statement}
+use Rattle.reads.proofs.read_symbol.Tie as tie
 
 symbol-of-requires : tie.Need-symbol-of-requires
 symbol-of-requires c κs = search needs

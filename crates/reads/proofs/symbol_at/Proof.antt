@@ -1,11 +1,11 @@
--- `checks::symbol_at` meets its contract. Assumes nothing.
+-- `reads::symbol_at` meets its contract. Assumes nothing.
 use mathlib.Core.Path.{_≡_}
 use native.Mathlib.Omega.{arith}
 use borrow.Author.Needs.{needs}
 use lib.ListN.{length}
 use Rattle.grammar.proofs.Occurrences.{at-left, at-right, at-none, at-slot-none}
-use Rattle.checks.proofs.symbol_at.Statement.{statement}
-use Rattle.checks.proofs.symbol_at.Tie as tie
+use Rattle.reads.proofs.symbol_at.Statement.{statement}
+use Rattle.reads.proofs.symbol_at.Tie as tie
 
 returns : tie.Need-returns
 returns c = at-left (c .before .args .p) (c .before .args .occurrence) (c .if1 .taken)

@@ -1,10 +1,10 @@
--- `checks::symbol_there` meets its contract. Assumes nothing.
+-- `reads::symbol_there` meets its contract. Assumes nothing.
 use mathlib.Core.Path.{ap, _∙_}
 use borrow.Author.Needs.{needs}
 use Rattle.grammar.specs.Table.{grammarOf}
 use Rattle.grammar.specs.Grammar.{symbol}
-use Rattle.checks.proofs.symbol_there.Statement.{statement}
-use Rattle.checks.proofs.symbol_there.Tie as tie
+use Rattle.reads.proofs.symbol_there.Statement.{statement}
+use Rattle.reads.proofs.symbol_there.Tie as tie
 
 symbol-at-requires : tie.Need-symbol-at-requires
 symbol-at-requires c κs = search needs

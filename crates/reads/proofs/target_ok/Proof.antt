@@ -1,11 +1,11 @@
--- `checks::target_ok` meets its contract. Assumes nothing.
+-- `reads::target_ok` meets its contract. Assumes nothing.
 use mathlib.Core.Path.{ap, _∙_}
 use borrow.Author.Needs.{needs}
 use lib.Dec.{eqb}
 use Rattle.numbers.specs.Number.{bit}
 use Rattle.grammar.proofs.Occurrences.{allowed-left, allowed-right}
-use Rattle.checks.proofs.target_ok.Statement.{statement}
-use Rattle.checks.proofs.target_ok.Tie as tie
+use Rattle.reads.proofs.target_ok.Statement.{statement}
+use Rattle.reads.proofs.target_ok.Tie as tie
 
 symbol-there-requires : tie.Need-symbol-there-requires
 symbol-there-requires c κs = search needs

@@ -1,4 +1,4 @@
--- `checks::edge_ok` meets its contract. Assumes nothing.
+-- `reads::edge_ok` meets its contract. Assumes nothing.
 use mathlib.Core.Path.{sym, ap, _∙_}
 use Prim.Native.Nat.{ℕ}
 use native.Mathlib.Omega.{arith}
@@ -12,16 +12,17 @@ use Rattle.grammar.specs.Grammar.{symbol, production, symbolAt}
 use Rattle.grammar.specs.declared.Production.{Production}
 use Rattle.grammar.proofs.Decided.{node-decides, target-decides, edge-decides}
 use Rattle.grammar.proofs.Lookups.{productions-many}
-use Rattle.checks.proofs.edge_ok.Statement.{statement}
-use Rattle.checks.proofs.edge_ok.Tie as tie
+use Rattle.reads.proofs.edge_ok.Statement.{statement}
+use Rattle.reads.proofs.edge_ok.Tie as tie
 
-two-at-requires : tie.Need-two-at-requires
-two-at-requires c κs = search needs
+header-of-requires : tie.Need-header-of-requires
+header-of-requires c κs = search needs
 
 returns : tie.Need-returns
 returns c =
-    let a = c .before .before .before .before .args in
+    let a = c .before .before .before .before .before .args in
     let many = productions-many (a .table .now) in
+    let said = ap (λ h. h .productions) (c .before .before .before .header-of .ensures) in
     sym (not-so (edge-decides (grammarOf (a .table .now)) (a .e)) (λ r. omega (arith, r .production-there)))
 
 cast-production-of : tie.Need-cast-production-of
@@ -35,7 +36,7 @@ node-ok-requires c κs = search needs
 
 returns-2 : tie.Need-returns-2
 returns-2 c =
-    let a = c .before .before .before .before .before .before .before .before .before .args in
+    let a = c .before .before .before .before .before .before .before .before .before .before .args in
     let g = grammarOf (a .table .now) in
     let p = production g (a .e .production) in
     let q = c .before .before .before .production-of .ensures in
@@ -47,7 +48,7 @@ node-ok-requires-2 c κs = search needs
 
 returns-3 : tie.Need-returns-3
 returns-3 c =
-    let a = c .before .before .before .before .before .before .before .before .before .before .before .before .args in
+    let a = c .before .before .before .before .before .before .before .before .before .before .before .before .before .args in
     let g = grammarOf (a .table .now) in
     let p = production g (a .e .production) in
     let q = c .before .before .before .before .before .before .production-of .ensures in
@@ -59,11 +60,12 @@ target-ok-requires c κs = search needs
 
 returns-4 : tie.Need-returns-4
 returns-4 c =
-    let a = c .before .before .before .before .before .before .before .before .before .before .before .before .before .args in
+    let a = c .before .before .before .before .before .before .before .before .before .before .before .before .before .before .args in
     let g = grammarOf (a .table .now) in
     let p = production g (a .e .production) in
     let q = c .before .before .before .before .before .before .before .production-of .ensures in
     let many = productions-many (a .table .now) in
+    let said = ap (λ h. h .productions) (c .before .before .before .before .before .before .before .before .before .before .before .before .header-of .ensures) in
     let source = ap (λ p. nodeOk g p (a .e .source)) (sym q) ∙ sym (c .before .before .before .before .before .node-ok .ensures) ∙ not-false _ (c .before .before .before .before .if2 .left) in
     let target = ap (λ p. nodeOk g p (a .e .target)) (sym q) ∙ sym (c .before .before .node-ok2 .ensures) ∙ not-false _ (c .before .if3 .left) in
     let inherited : Production → ℕ = λ p. bit (a .e .target .attribute) (symbol g (symbolAt p (a .e .target .occurrence)) .mask) in
@@ -85,7 +87,7 @@ pub edge-ok-spec : {M : Type 1} → statement M
 edge-ok-spec =
     tie.close
     (tie.spec
-    two-at-requires
+    header-of-requires
     returns
     cast-production-of
     production-of-requires

@@ -1,4 +1,4 @@
--- `checks::rights_ok` meets its contract. What is left of the first n slots, from k on, passes the test exactly if all of them do. Assumes nothing.
+-- `reads::slots_below` meets its contract. What is left of the slots before the end, from k on, passes the test exactly if all of them do. Assumes nothing.
 use mathlib.Core.Path.{_≡_, refl, sym, ap, _∙_}
 use Prim.Native.Nat.{_≤_, _-_}
 use native.Mathlib.Omega.{arith}
@@ -9,18 +9,18 @@ use lib.ListN.{length, take, drop, length-take}
 use lib.Dec.{ltb}
 use Rattle.numbers.specs.Lists.{every}
 use Rattle.numbers.proofs.Every.{passes-at, fails-at, passes-all}
-use Rattle.checks.proofs.rights_ok.Statement.{statement}
-use Rattle.checks.proofs.rights_ok.Tie as tie
+use Rattle.reads.proofs.slots_below.Statement.{statement}
+use Rattle.reads.proofs.slots_below.Tie as tie
 
 abbrev Inv-loop : tie.InvT-loop
-Inv-loop n symbols slots end k₀ k =
-    (k ≤ n) × (end ≡ n) × (every (λ s. ltb s symbols) (drop k (take n slots)) ≡ every (λ s. ltb s symbols) (take n slots))
+Inv-loop from end bound slots k₀ k =
+    (from ≤ k) × (k ≤ end) × (every (λ s. ltb s bound) (drop k (take end slots)) ≡ every (λ s. ltb s bound) (drop from (take end slots)))
 
 abbrev μ-loop : tie.MeasureT-loop
-μ-loop n symbols slots end k₀ k = n - k
+μ-loop from end bound slots k₀ k = end - k
 
 loop-holds : tie.Need-loop-holds Inv-loop μ-loop
-loop-holds c = (search needs, refl, refl)
+loop-holds c = (search needs, search needs, refl)
 
 mul-if1 : tie.Need-mul-if1 Inv-loop μ-loop
 mul-if1 c = search needs
@@ -33,10 +33,10 @@ returns c =
     let a = c .before .before .before .args in
     let k = c .before .before .loop .k in
     let long : length (a .t1) ≡ 7 = search needs in
-    let f = ap (λ s. ltb s (a .symbols)) (getD-take (a .n) (a .t1) k 0 (omega arith)) ∙ le-ltb _ _ (c .if1 .taken) in
+    let f = ap (λ s. ltb s (a .bound)) (getD-take (a .end) (a .t1) k 0 (omega arith)) ∙ le-ltb _ _ (c .if1 .taken) in
     sym
     (sym (c .before .before .loop .inv .2)
-    ∙ fails-at (λ s. ltb s (a .symbols)) (take (a .n) (a .t1)) 0 k (omega (arith, length-take (a .n) (a .t1))) f)
+    ∙ fails-at (λ s. ltb s (a .bound)) (take (a .end) (a .t1)) 0 k (omega (arith, length-take (a .end) (a .t1))) f)
 
 add-k : tie.Need-add-k Inv-loop μ-loop
 add-k c = search needs
@@ -49,10 +49,10 @@ loop-again c =
     let a = c .before .before .before .args in
     let k = c .before .before .loop .k in
     let long : length (a .t1) ≡ 7 = search needs in
-    let f = ap (λ s. ltb s (a .symbols)) (getD-take (a .n) (a .t1) k 0 (omega arith)) ∙ lt-ltb _ _ (c .if1 .left) in (
+    let f = ap (λ s. ltb s (a .bound)) (getD-take (a .end) (a .t1) k 0 (omega arith)) ∙ lt-ltb _ _ (c .if1 .left) in (
       omega arith,
-      refl,
-      passes-at (λ s. ltb s (a .symbols)) (take (a .n) (a .t1)) 0 k (omega (arith, length-take (a .n) (a .t1))) f
+      omega arith,
+      passes-at (λ s. ltb s (a .bound)) (take (a .end) (a .t1)) 0 k (omega (arith, length-take (a .end) (a .t1))) f
           ∙ c .before .before .loop .inv .2,
     )
 
@@ -61,10 +61,10 @@ returns-2 c =
     let a = c .before .before .args in
     sym
     (sym (c .before .loop .inv .2)
-    ∙ passes-all (λ s. ltb s (a .symbols)) (take (a .n) (a .t1)) 0 (c .before .loop .k) (omega (arith, length-take (a .n) (a .t1))))
+    ∙ passes-all (λ s. ltb s (a .bound)) (take (a .end) (a .t1)) 0 (c .before .loop .k) (omega (arith, length-take (a .end) (a .t1))))
 
-pub rights-ok-spec : {M : Type 1} → statement M
-rights-ok-spec =
+pub slots-below-spec : {M : Type 1} → statement M
+slots-below-spec =
     tie.close
     (tie.spec
     Inv-loop

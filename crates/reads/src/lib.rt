@@ -1,0 +1,254 @@
+// The header and the records of a table, each held to its rule.
+use numbers::four_at;
+ghost use mathlib.Core.Path.{_≡_};
+ghost use Prim.Native.Nat.{_≤_};
+ghost use lib.Dec.{ltb};
+ghost use lib.ListN.{take, drop};
+ghost use Rattle.numbers.specs.Number.{bit};
+ghost use Rattle.numbers.specs.Lists.{every, below};
+ghost use Rattle.grammar.specs.Grammar.{symbol, production, symbolAt};
+ghost use Rattle.grammar.specs.Table.{N, attributes, widthOf, grammarOf};
+ghost use Rattle.grammar.specs.Rules.{key};
+ghost use Rattle.grammar.specs.Refusal.{
+  countsOk,
+  offsetsOk,
+  symbolOk,
+  productionOk,
+  nodeOk,
+  allowed,
+  edgeOk,
+};
+ghost use Rattle.grammar.specs.Reading.{edgeAt};
+ghost use Rattle.grammar.specs.Steps.{symbolRead, productionRead, edgeRead, inOrder};
+use grammar::ATTRIBUTES;
+use grammar::Edge;
+use grammar::Head;
+use grammar::MOST_EDGES;
+use grammar::MOST_PRODUCTIONS;
+use grammar::MOST_SYMBOLS;
+use grammar::Node;
+use grammar::Production;
+use grammar::Read;
+use grammar::SLOTS;
+use grammar::Symbol;
+
+// Rule 2: the counts and the start symbol.
+pub fn counts_ok(table: &[u8]) -> bool
+    ensures { λ r. ⌜ r ≡ countsOk (now (table .entry)) ⌝ }
+{
+    let h = tables::header_of(table);
+    if h.symbols < 1 {
+        return false;
+    }
+    if MOST_SYMBOLS < h.symbols {
+        return false;
+    }
+    if MOST_PRODUCTIONS < h.productions {
+        return false;
+    }
+    if MOST_EDGES < h.edges {
+        return false;
+    }
+    h.start < h.symbols
+}
+
+// Rule 3: the offsets and the total.
+pub fn offsets_ok(table: &[u8]) -> bool
+    ensures { λ r. ⌜ r ≡ offsetsOk (now (table .entry)) ⌝ }
+{
+    let o = tables::offsets_of(table);
+    if four_at(table, 8) != o.symbols {
+        return false;
+    }
+    if four_at(table, 12) != o.productions {
+        return false;
+    }
+    if four_at(table, 16) != o.edges {
+        return false;
+    }
+    if four_at(table, 20) != o.total {
+        return false;
+    }
+    o.total as usize == table.len()
+}
+
+fn symbol_ok(s: Symbol) -> bool
+    ensures { λ r. ⌜ r ≡ symbolOk attributes s ⌝ }
+{
+    if ATTRIBUTES < s.count as usize {
+        return false;
+    }
+    s.mask < 1u16 << s.count
+}
+
+// The symbol s, by rule 4.
+pub fn read_symbol(table: &[u8], s: usize) -> Read
+    ensures { λ r. ⌜ r ≡ symbolRead (widthOf (now (table .entry))) (symbol (grammarOf (now (table .entry))) s) ⌝ }
+{
+    let x = tables::symbol_of(table, s);
+    if symbol_ok(x) {
+        Read::Symbol(x)
+    } else {
+        Read::Refused(4)
+    }
+}
+
+// The slots from `from` on, and before `end`, are below `bound`.
+fn slots_below(slots: [u16; SLOTS], from: u16, end: u16, bound: u16) -> bool
+    requires { ⌜ (from ≤ end) × (end ≤ 7) ⌝ }
+    ensures { λ r. ⌜ r ≡ every (λ s. ltb s bound) (drop from (take end slots)) ⌝ }
+{
+    let mut k = from as usize;
+    while k < end as usize {
+        if bound <= slots[k] {
+            return false;
+        }
+        k += 1;
+    }
+    true
+}
+
+// The right symbols are there, and the slots after them are 0.
+fn production_ok(p: Production, symbols: u16) -> bool
+    ensures { λ r. ⌜ r ≡ productionOk symbols p ⌝ }
+{
+    if symbols <= p.left {
+        return false;
+    }
+    if SLOTS < p.n as usize {
+        return false;
+    }
+    let slots = p.slots;
+    if !slots_below(slots, 0, p.n, symbols) {
+        return false;
+    }
+    slots_below(slots, p.n, SLOTS as u16, 1)
+}
+
+// The production p, by rule 5.
+pub fn read_production(table: &[u8], p: usize) -> Read
+    ensures { λ r. ⌜ r ≡ productionRead (N (now (table .entry))) (production (grammarOf (now (table .entry))) p) ⌝ }
+{
+    let h = tables::header_of(table);
+    let x = tables::production_of(table, p);
+    if production_ok(x, h.symbols) {
+        Read::Production(Head {
+            left: x.left,
+            n: x.n,
+        })
+    } else {
+        Read::Refused(5)
+    }
+}
+
+// The number of the symbol at an occurrence, and 0 where there is none.
+fn symbol_at(p: Production, occurrence: u8) -> u16
+    ensures { λ r. ⌜ r ≡ symbolAt p occurrence ⌝ }
+{
+    if occurrence == 0 {
+        return p.left;
+    }
+    let k = (occurrence - 1) as usize;
+    if p.n as usize <= k {
+        return 0;
+    }
+    if SLOTS <= k {
+        return 0;
+    }
+    let slots = p.slots;
+    slots[k]
+}
+
+fn symbol_there(table: &[u8], p: Production, occurrence: u8) -> Symbol
+    ensures { λ r. ⌜ r ≡ symbol (grammarOf (now (table .entry))) (symbolAt p occurrence) ⌝ }
+{
+    tables::symbol_of(table, symbol_at(p, occurrence) as usize)
+}
+
+fn node_ok(table: &[u8], p: Production, x: Node) -> bool
+    ensures { λ r. ⌜ r ≡ nodeOk (grammarOf (now (table .entry))) p x ⌝ }
+{
+    if p.n < x.occurrence as u16 {
+        return false;
+    }
+    let s = symbol_there(table, p, x.occurrence);
+    x.attribute < s.count
+}
+
+// 1 where the attribute is inherited, and 0 where it is not.
+fn inherited(s: Symbol, attribute: u8) -> u16
+    ensures { λ r. ⌜ r ≡ bit attribute (s .mask) ⌝ }
+{
+    if 15 < attribute {
+        return 0;
+    }
+    (s.mask >> attribute) % 2
+}
+
+fn target_ok(table: &[u8], p: Production, x: Node) -> bool
+    ensures { λ r. ⌜ r ≡ allowed (x .occurrence) (bit (x .attribute) (symbol (grammarOf (now (table .entry))) (symbolAt p (x .occurrence)) .mask)) ⌝ }
+{
+    let i = inherited(symbol_there(table, p, x.occurrence), x.attribute);
+    if x.occurrence == 0 { i == 0 } else { i == 1 }
+}
+
+fn edge_ok(table: &[u8], e: Edge) -> bool
+    ensures { λ r. ⌜ r ≡ edgeOk (grammarOf (now (table .entry))) (production (grammarOf (now (table .entry))) (e .production)) e ⌝ }
+{
+    let h = tables::header_of(table);
+    if h.productions <= e.production {
+        return false;
+    }
+    let p = tables::production_of(table, e.production as usize);
+    let source = e.source;
+    if !node_ok(table, p, source) {
+        return false;
+    }
+    let target = e.target;
+    if !node_ok(table, p, target) {
+        return false;
+    }
+    target_ok(table, p, target)
+}
+
+// By production, then by the other four fields in their order.
+fn is_below(a: Edge, b: Edge) -> bool
+    ensures { λ r. ⌜ r ≡ below (key a) (key b) ⌝ }
+{
+    if a.production != b.production {
+        return a.production < b.production;
+    }
+    if a.source.occurrence != b.source.occurrence {
+        return a.source.occurrence < b.source.occurrence;
+    }
+    if a.source.attribute != b.source.attribute {
+        return a.source.attribute < b.source.attribute;
+    }
+    if a.target.occurrence != b.target.occurrence {
+        return a.target.occurrence < b.target.occurrence;
+    }
+    a.target.attribute < b.target.attribute
+}
+
+fn in_order(i: usize, before: Edge, e: Edge) -> bool
+    ensures { λ r. ⌜ r ≡ inOrder i before e ⌝ }
+{
+    if i == 0 {
+        return true;
+    }
+    is_below(before, e)
+}
+
+// The edge i, after the edge before it, by rules 6 and 7.
+pub fn read_edge(table: &[u8], i: usize, before: Edge) -> Read
+    ensures { λ r. ⌜ r ≡ edgeRead (now (table .entry)) i before (edgeAt (now (table .entry)) i) ⌝ }
+{
+    let e = tables::edge_at(table, i);
+    if !edge_ok(table, e) {
+        return Read::Refused(6);
+    }
+    if !in_order(i, before, e) {
+        return Read::Refused(7);
+    }
+    Read::Edge(e)
+}
