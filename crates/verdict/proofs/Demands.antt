@@ -8,7 +8,7 @@ use native.Mathlib.Omega.{arith}
 use lib.Dec.{eqb, eqb·suc-zero}
 use lib.ListN.{length}
 use Rattle.grammar.specs.Grammar.{Grammar}
-use Rattle.grammar.specs.Table.{grammarOf}
+use Rattle.grammar.specs.Table.{widthOf, grammarOf}
 use Rattle.grammar.specs.Rules.{Breaks}
 use Rattle.grammar.specs.Refusal.{refusal}
 use Rattle.grammar.proofs.Refused as rules-shown
@@ -139,13 +139,13 @@ entries-shown bs limit room k l = go (either bs)
         let o = obeys bs good in
         let es = back bs limit room .entries in
         let s = sound bs good limit room in
-        let h = entry-shows 8 g (o .0) (o .1) es (s .made) k l in
+        let h = entry-shows (widthOf bs) g (o .0) (o .1) es (s .made) k l in
         record {
           complete = h .complete;
           symbol = h .symbol;
-          graph = graph-of bs (entryTree bs (back bs limit room) k) (entry es k .graph) (low 8 g (o .0) (o .1) es (s .made) k l) (h .is-graph);
-          earlier = earlier 8 g (o .0) (o .1) es (s .made) k l;
-          again = again 8 g (o .0) (o .1) es (s .made) k l;
+          graph = graph-of bs (entryTree bs (back bs limit room) k) (entry es k .graph) (low (widthOf bs) g (o .0) (o .1) es (s .made) k l) (h .is-graph);
+          earlier = earlier (widthOf bs) g (o .0) (o .1) es (s .made) k l;
+          again = again (widthOf bs) g (o .0) (o .1) es (s .made) k l;
         }
     go (inr (j, b)) = absurd (omega (arith, ap (λ (o : Outcome). length (o .entries)) (refused bs j b limit room)))
 
@@ -159,24 +159,24 @@ circular-shown bs limit room p h =
     let s = sound bs good limit room in
     let root = subst (runs.Says (systemIn bs) (In (byNumber g)) limit room (back bs limit room)) h (s .says) in
     record {
-      complete = root-complete 8 g (o .0) (o .1) es (s .made) p slots root;
-      circle = root-circle 8 g (o .0) (o .1) es (s .made) p slots root;
-      earlier = root-earlier 8 g (o .0) (o .1) es (s .made) p slots root;
+      complete = root-complete (widthOf bs) g (o .0) (o .1) es (s .made) p slots root;
+      circle = root-circle (widthOf bs) g (o .0) (o .1) es (s .made) p slots root;
+      earlier = root-earlier (widthOf bs) g (o .0) (o .1) es (s .made) p slots root;
     }
 
 -- after noncircular the store has every tree
 full : (bs : List ℕ) (limit room : ℕ) → answer bs limit room ≡ Noncircular
-    → record-of-trees.Saturated (grammarOf bs) (NumberHolds 8) (InTable (grammarOf bs)) (told (grammarOf bs) (back bs limit room .entries))
+    → record-of-trees.Saturated (grammarOf bs) (NumberHolds (widthOf bs)) (InTable (grammarOf bs)) (told (grammarOf bs) (back bs limit room .entries))
     (length (back bs limit room .entries))
 full bs limit room h =
     let good = not-refused bs limit room Noncircular h (λ e. omega arith) in
     let s = sound bs good limit room in
-    saturated 8 (grammarOf bs) (obeys bs good .0) (obeys bs good .1) (back bs limit room .entries)
+    saturated (widthOf bs) (grammarOf bs) (obeys bs good .0) (obeys bs good .1) (back bs limit room .entries)
     (subst (runs.Says (systemIn bs) (In (byNumber (grammarOf bs))) limit room (back bs limit room)) h (s .says) .0)
 
 pub noncircular-none : NoncircularNoneAlways back
 noncircular-none bs limit room h =
-    none-circular (grammarOf bs) (NumberHolds 8) (InTable (grammarOf bs)) (told (grammarOf bs) (back bs limit room .entries))
+    none-circular (grammarOf bs) (NumberHolds (widthOf bs)) (InTable (grammarOf bs)) (told (grammarOf bs) (back bs limit room .entries))
     (length (back bs limit room .entries)) (full bs limit room h)
 
 pub limits-kept : LimitsKeptAlways back
@@ -262,7 +262,7 @@ room-counts bs limit R unbroken calm enough = go (answer bs limit R) refl (s .sa
         let g = grammarOf bs in
         let es = back bs limit R .entries in
         let o = obeys bs good in
-        let full = saturated 8 g (o .0) (o .1) es (says .0) in
+        let full = saturated (widthOf bs) g (o .0) (o .1) es (says .0) in
         record {
           exactly = (
             λ k. absurd (let z : _≡_ {A = ℕ} 0 4 = ap case (sym h ∙ k) in omega arith),
@@ -272,13 +272,13 @@ room-counts bs limit R unbroken calm enough = go (answer bs limit R) refl (s .sa
                   arith,
                   m .2,
                   s .entries,
-                  no-more 8 g (o .0) (o .1) es (s .made) (s .different) full (m .0) (m .1) (λ q k. of-tree bs q (m .3 q k)),
+                  no-more (widthOf bs) g (o .0) (o .1) es (s .made) (s .different) full (m .0) (m .1) (λ q k. of-tree bs q (m .3 q k)),
                 )),
           );
-          once = stored-once 8 g (o .0) (o .1) es (s .made) (s .different);
+          once = stored-once (widthOf bs) g (o .0) (o .1) es (s .made) (s .different);
           those = λ _ q. (
-            λ m. tree-pair bs _ (stored-pairs 8 g (o .0) (o .1) es (s .made) (s .different) _ m),
-            λ m. pairs-stored 8 g (o .0) (o .1) es (s .made) (s .different) full _ (of-tree bs _ m),
+            λ m. tree-pair bs _ (stored-pairs (widthOf bs) g (o .0) (o .1) es (s .made) (s .different) _ m),
+            λ m. pairs-stored (widthOf bs) g (o .0) (o .1) es (s .made) (s .different) full _ (of-tree bs _ m),
           );
         }
     go (Circular p) h says =
@@ -291,10 +291,10 @@ room-counts bs limit R unbroken calm enough = go (answer bs limit R) refl (s .sa
         let es = back bs limit R .entries in
         let o = obeys bs good in
         let x = says .1 in
-        let l = one-more 8 g (o .0) (o .1) es (s .made) (s .different) (x .extra) (x .made) (x .new) in
+        let l = one-more (widthOf bs) g (o .0) (o .1) es (s .made) (s .different) (x .extra) (x .made) (x .new) in
         record {
           exactly = (λ _. (l .0, l .1, omega (arith, l .2, says .0), λ q k. tree-pair bs q (l .3 q k)), λ _. h);
-          once = stored-once 8 g (o .0) (o .1) es (s .made) (s .different);
+          once = stored-once (widthOf bs) g (o .0) (o .1) es (s .made) (s .different);
           those = λ n. absurd (n h);
         }
 

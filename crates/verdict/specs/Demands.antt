@@ -11,7 +11,7 @@ use Rattle.numbers.specs.Lists.{Distinct}
 use Rattle.numbers.specs.Number.{bit}
 use Rattle.numbers.specs.Paths.{Plus}
 use Rattle.grammar.specs.Grammar.{Grammar, production, rights}
-use Rattle.grammar.specs.Table.{grammarOf}
+use Rattle.grammar.specs.Table.{widthOf, grammarOf}
 use Rattle.grammar.specs.Rules.{Breaks}
 use Rattle.trees.specs.Tree.{Tree, rootSymbol, Instance, here, Complete, InTable, TreeEdge, instances}
 use Rattle.trees.specs.Evaluator.{Computed, left, notGiven, MayTake, StandsStill, Reached, Position, Evaluator, play}
@@ -29,7 +29,7 @@ use Rattle.rules.specs.Test.{test}
 abbrev pub Version : Type 0
 Version = List ℕ → ℕ → ℕ → Outcome
 
--- what comes back by the rules, for eight attributes
+-- what comes back by the rules
 abbrev pub back : Version
 back bs limit room = test bs limit room
 
@@ -61,12 +61,12 @@ HasCircle bs t = (y : Instance) × OnCircle bs t y
 abbrev pub SomeCircle : List ℕ → Type 0
 SomeCircle bs = (t : Tree) × TreeOf bs t × HasCircle bs t
 
--- The graph of a tree as one 64-bit number: it holds the pair (a, b) of root attributes, worth 2 to the power 8a + b, exactly if a path of at
--- least one edge leads from a to b inside the tree. No path leads from or to any other number of a root attribute.
+-- The graph of a tree as one number of 64 bits: it holds the pair (a, b) of root attributes, worth 2 to the power 8a + b, exactly if a path
+-- of at least one edge leads from a to b inside the tree. There is no path from or to a root attribute of any other number.
 pub record GraphOf (bs : List ℕ) (t : Tree) (graph : ℕ) : Type 0 where
-  pub number : graph < 2 ^ 64
-  pub bits : (a b : ℕ) → a < 8 → b < 8 → (bit (8 * a + b) graph ≡ 1) ↔ PathIn bs t (here a) (here b)
-  pub no-other : (a b : ℕ) → PathIn bs t (here a) (here b) → (a < 8) × (b < 8)
+  pub number : graph < 2 ^ (widthOf bs * widthOf bs)
+  pub bits : (a b : ℕ) → a < widthOf bs → b < widthOf bs → (bit (widthOf bs * a + b) graph ≡ 1) ↔ PathIn bs t (here a) (here b)
+  pub no-other : (a b : ℕ) → PathIn bs t (here a) (here b) → (a < widthOf bs) × (b < widthOf bs)
 
 -- a symbol and a graph that some finite complete tree has, at its root
 pub record TreePair (bs : List ℕ) (q : ℕ × ℕ) : Type 0 where
