@@ -1,39 +1,46 @@
-// Graphs as rows of bits: 64 rows of 64 bits, a row for each attribute of the eight occurrences that a production has at most.
+// Graphs as rows of bits: a row for each attribute of the eight occurrences that a production has at most, and in it a bit for each.
 ghost use mathlib.Core.Path.{_≡_};
 ghost use Prim.Native.Nat.{_*_, _+_, _<_, _≤_, min};
 ghost use lib.ListN.{length, take, replicate};
 ghost use Rattle.grammar.specs.Table.{attributes, nodeIn, edgesIn};
 ghost use Rattle.graph.specs.Rows.{node, link, own, placed, through, hasCircle, rootGraph};
-ghost use Rattle.graph.specs.Parts.{mapFirst, targetsTo, closedFirst};
+ghost use Rattle.graph.specs.Parts.{mostNodes, mapFirst, targetsTo, closedFirst};
+use grammar::ATTRIBUTES;
+use grammar::EDGE_BYTES;
+use grammar::NODES;
+use grammar::SLOTS;
+
+// As many low bits of a row as an occurrence has attributes.
+const ATTRIBUTE_BITS: u64 = (1 << ATTRIBUTES) - 1;
 
 // The number of the node whose occurrence and attribute stand at `at`.
 fn node_at(run: &[u8], at: usize) -> usize
     requires { ⌜ at + 1 < length (now run) ⌝ }
     ensures { λ r. ⌜ r ≡ node attributes (nodeIn (now (run .entry)) at) ⌝ }
 {
-    8 * (run[at] as usize) + run[at + 1] as usize
+    ATTRIBUTES * (run[at] as usize) + run[at + 1] as usize
 }
 
 // One edge more; nothing changes where there is no such node.
-fn add_edge(rows: &mut [u64; 64], source: usize, target: usize)
-    requires { ⌜ length (now rows) ≡ 64 ⌝ }
+fn add_edge(rows: &mut [u64; NODES], source: usize, target: usize)
+    requires { ⌜ length (now rows) ≡ mostNodes ⌝ }
     ensures { λ _. ⌜ now (rows .exit) ≡ link source target (now (rows .entry)) ⌝ }
 {
-    if source < 64 {
-        if target < 64 {
+    if source < NODES {
+        if target < NODES {
             rows[source] = rows[source] | 1 << target;
         }
     }
 }
 
 // The edges of a run of edge records.
-pub fn own_rows(run: &[u8]) -> [u64; 64]
-    ensures { λ r. ⌜ r ≡ own attributes (edgesIn (now (run .entry))) (replicate 64 0) ⌝ }
+pub fn own_rows(run: &[u8]) -> [u64; NODES]
+    ensures { λ r. ⌜ r ≡ own attributes (edgesIn (now (run .entry))) (replicate mostNodes 0) ⌝ }
 {
-    let mut rows = [0u64; 64];
-    let count = run.len() / 6;
+    let mut rows = [0u64; NODES];
+    let count = run.len() / EDGE_BYTES;
     for e in 0..count {
-        let at = 6 * e;
+        let at = EDGE_BYTES * e;
         let source = node_at(run, at + 2);
         let target = node_at(run, at + 4);
         add_edge(&mut rows, source, target);
@@ -43,20 +50,20 @@ pub fn own_rows(run: &[u8]) -> [u64; 64]
 
 // A subtree's pairs, joined in at its occurrence.
 fn place_in(rows: &mut [u64], graph: u64, occurrence: usize)
-    requires { ⌜ length (now rows) ≡ 64 ⌝ }
+    requires { ⌜ length (now rows) ≡ mostNodes ⌝ }
     ensures { λ _. ⌜ now (rows .exit) ≡ placed attributes occurrence graph (now (rows .entry)) ⌝ }
 {
-    if 8 <= occurrence {
+    if SLOTS < occurrence {
         return;
     }
-    let base = 8 * occurrence;
-    for a in 0..8 {
-        let pairs = (graph >> (8 * a)) & 255;
+    let base = ATTRIBUTES * occurrence;
+    for a in 0..ATTRIBUTES {
+        let pairs = (graph >> (ATTRIBUTES * a)) & ATTRIBUTE_BITS;
         rows[base + a] = rows[base + a] | (pairs << base);
     }
 }
 
-pub fn place(rows: &mut [u64; 64], graph: u64, occurrence: usize)
+pub fn place(rows: &mut [u64; NODES], graph: u64, occurrence: usize)
     ensures { λ _. ⌜ now (rows .exit) ≡ placed attributes occurrence graph (now (rows .entry)) ⌝ }
 {
     place_in(rows, graph, occurrence);
@@ -64,7 +71,7 @@ pub fn place(rows: &mut [u64; 64], graph: u64, occurrence: usize)
 
 // A row after the step through node k, whose row is `via`.
 fn joined(k: usize, via: u64, row: u64) -> u64
-    requires { ⌜ k < 64 ⌝ }
+    requires { ⌜ k < mostNodes ⌝ }
     ensures { λ r. ⌜ r ≡ through k via row ⌝ }
 {
     if (row >> k) & 1 == 1 { row | via } else { row }
@@ -72,7 +79,7 @@ fn joined(k: usize, via: u64, row: u64) -> u64
 
 // The step through node k, whose row is `via`, in the rows of the first m nodes.
 fn step_through(rows: &mut [u64], k: usize, via: u64, m: usize)
-    requires { ⌜ (k < 64) × (m ≤ length (now rows)) ⌝ }
+    requires { ⌜ (k < mostNodes) × (m ≤ length (now rows)) ⌝ }
     ensures { λ _. ⌜ now (rows .exit) ≡ mapFirst m (through k via) (now (rows .entry)) ⌝ }
 {
     for i in 0..m {
@@ -82,9 +89,13 @@ fn step_through(rows: &mut [u64], k: usize, via: u64, m: usize)
 
 // How many nodes the occurrences have, of those that a table has room for.
 fn nodes(occurrences: usize) -> usize
-    ensures { λ r. ⌜ r ≡ min (attributes * occurrences) 64 ⌝ }
+    ensures { λ r. ⌜ r ≡ min (attributes * occurrences) mostNodes ⌝ }
 {
-    if occurrences < 8 { 8 * occurrences } else { 64 }
+    if occurrences <= SLOTS {
+        ATTRIBUTES * occurrences
+    } else {
+        NODES
+    }
 }
 
 // The nodes to which an edge of the first m rows leads, as the bits of one row.
@@ -102,7 +113,7 @@ fn targets(rows: &[u64], m: usize) -> u64
 // The closure of the nodes of the first occurrences. The step through a node that no edge leaves, or to which none leads, would change
 // nothing and is left out.
 fn close_in(rows: &mut [u64], occurrences: usize)
-    requires { ⌜ length (now rows) ≡ 64 ⌝ }
+    requires { ⌜ length (now rows) ≡ mostNodes ⌝ }
     ensures { λ _. ⌜ now (rows .exit) ≡ closedFirst (attributes * occurrences) (now (rows .entry)) ⌝ }
 {
     let m = nodes(occurrences);
@@ -117,7 +128,7 @@ fn close_in(rows: &mut [u64], occurrences: usize)
     }
 }
 
-pub fn close(rows: &mut [u64; 64], occurrences: usize)
+pub fn close(rows: &mut [u64; NODES], occurrences: usize)
     ensures { λ _. ⌜ now (rows .exit) ≡ closedFirst (attributes * occurrences) (now (rows .entry)) ⌝ }
 {
     close_in(rows, occurrences);
@@ -125,7 +136,7 @@ pub fn close(rows: &mut [u64; 64], occurrences: usize)
 
 // Whether a node of the first occurrences has an edge to itself.
 fn circle_in(rows: &[u64], occurrences: usize) -> bool
-    requires { ⌜ length (now rows) ≡ 64 ⌝ }
+    requires { ⌜ length (now rows) ≡ mostNodes ⌝ }
     ensures { λ r. ⌜ r ≡ hasCircle (take (attributes * occurrences) (now (rows .entry))) ⌝ }
 {
     let n = nodes(occurrences);
@@ -136,19 +147,19 @@ fn circle_in(rows: &[u64], occurrences: usize) -> bool
     seen & 1 == 1
 }
 
-pub fn has_circle(rows: &[u64; 64], occurrences: usize) -> bool
+pub fn has_circle(rows: &[u64; NODES], occurrences: usize) -> bool
     ensures { λ r. ⌜ r ≡ hasCircle (take (attributes * occurrences) (now (rows .entry))) ⌝ }
 {
     circle_in(rows, occurrences)
 }
 
 // The pairs among the nodes of the left symbol.
-pub fn root_graph(rows: &[u64; 64]) -> u64
+pub fn root_graph(rows: &[u64; NODES]) -> u64
     ensures { λ r. ⌜ r ≡ rootGraph attributes (now (rows .entry)) ⌝ }
 {
     let mut graph: u64 = 0;
-    for a in 0..8 {
-        graph = graph | ((rows[a] & 255) << (8 * a));
+    for a in 0..ATTRIBUTES {
+        graph = graph | ((rows[a] & ATTRIBUTE_BITS) << (ATTRIBUTES * a));
     }
     graph
 }
