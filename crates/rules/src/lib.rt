@@ -1,4 +1,8 @@
 // The types that the rules and the code share.
+use grammar::SLOTS;
+
+// The most entries: what is lent beyond is never used.
+pub const MOST_ENTRIES: usize = 4096;
 
 pub enum Answer {
     Noncircular,
@@ -16,7 +20,7 @@ pub struct Report {
     pub closures: u32,
     pub entries: u16,
     pub passes: u16,
-    pub root: [u16; 7],
+    pub root: [u16; SLOTS],
 }
 
 // A symbol with a graph, made by a production over earlier entries, one for each right symbol; unused slots are 0.
@@ -24,5 +28,5 @@ pub struct Entry {
     pub symbol: u16,
     pub graph: u64,
     pub production: u16,
-    pub kids: [u16; 7],
+    pub kids: [u16; SLOTS],
 }
