@@ -32,11 +32,12 @@ atExit a b c d = lent (a .exit) (b .exit) (c .exit) (d .exit)
 
 -- ---- the room
 
--- the room is the smallest of what each slice can hold, seven kids for each entry, and at most 4096
+-- the smallest of what slices of these lengths can hold, seven kids for each entry, and at most 4096
+abbrev pub roomFor : ℕ → ℕ → ℕ → ℕ → ℕ
+roomFor symbols graphs productions kids = min 4096 (min symbols (min graphs (min productions (kids / 7))))
+
 abbrev pub roomOf : Slices → ℕ
-roomOf σ =
-    min 4096
-    (min (length (σ .symbols)) (min (length (σ .graphs)) (min (length (σ .productions)) (length (σ .kids) / 7))))
+roomOf σ = roomFor (length (σ .symbols)) (length (σ .graphs)) (length (σ .productions)) (length (σ .kids))
 
 -- with the entry as number n
 abbrev pub put : Slices → ℕ → Entry → Slices

@@ -1,11 +1,11 @@
 // The six steps for one combination, over four parallel lent slices of numbers.
 ghost use mathlib.Core.Path.{_≡_};
-ghost use Prim.Native.Nat.{_+_, _/_, _≤_, min};
+ghost use Prim.Native.Nat.{_+_, _≤_};
 ghost use lib.ListN.{length};
 ghost use lib.Seq.{sets};
 ghost use Rattle.grammar.specs.Table.{attributes};
 ghost use Rattle.graph.specs.Rows.{placedFrom, hasCircle, rootGraph};
-ghost use Rattle.steps.specs.Slices.{atEntry, atExit};
+ghost use Rattle.steps.specs.Slices.{roomFor, atEntry, atExit};
 ghost use Rattle.steps.specs.Step.{
   goesOn,
   stops,
@@ -18,14 +18,17 @@ ghost use Rattle.steps.specs.Step.{
   fits,
   Tried,
 };
+use grammar::NODES;
+use grammar::SLOTS;
 use rules::Answer;
+use rules::MOST_ENTRIES;
 
 // Where the passes stand: the closures that are left and how many entries are stored. While the passes go on, `answer` and `root`
 // mean nothing.
 pub struct Run {
     pub going: bool,
     pub answer: Answer,
-    pub root: [u16; 7],
+    pub root: [u16; SLOTS],
     pub left: u32,
     pub stored: usize,
 }
@@ -36,7 +39,7 @@ pub struct Task {
     pub number: u16,
     pub symbol: u16,
     pub count: usize,
-    pub rights: [u16; 7],
+    pub rights: [u16; SLOTS],
     pub room: usize,
     pub first: usize,
 }
@@ -56,21 +59,21 @@ pub enum Verdict {
     New(u64),
 }
 
-// How many entries the slices can hold, seven kids each, and at most 4,096.
+// How many entries slices of these lengths hold.
 pub fn room_of(symbols: usize, graphs: usize, productions: usize, kids: usize) -> usize
-    ensures { λ r. ⌜ r ≡ min 4096 (min symbols (min graphs (min productions (kids / 7)))) ⌝ }
+    ensures { λ r. ⌜ r ≡ roomFor symbols graphs productions kids ⌝ }
 {
     numbers::smaller(
-        4096,
+        MOST_ENTRIES,
         numbers::smaller(
             symbols,
-            numbers::smaller(graphs, numbers::smaller(productions, kids / 7)),
+            numbers::smaller(graphs, numbers::smaller(productions, kids / SLOTS)),
         ),
     )
 }
 
 // The rows of the compound graph: to the production's own, each picked entry's pairs at its occurrence.
-fn compound(graphs: &[u64], rows: &mut [u64; 64], task: Task, picked: [u16; 7])
+fn compound(graphs: &[u64], rows: &mut [u64; NODES], task: Task, picked: [u16; SLOTS])
     requires { ⌜ PickedIn (now graphs) task picked ⌝ }
     ensures { λ _. ⌜ now (rows .exit) ≡ placedFrom attributes 1 (graphsOf (now (graphs .entry)) task picked) (now (rows .entry)) ⌝ }
 {
@@ -85,7 +88,7 @@ fn compound(graphs: &[u64], rows: &mut [u64; 64], task: Task, picked: [u16; 7])
 }
 
 // One closure.
-fn closure(graphs: &[u64], own: &[u64; 64], task: Task, picked: [u16; 7]) -> Closed
+fn closure(graphs: &[u64], own: &[u64; NODES], task: Task, picked: [u16; SLOTS]) -> Closed
     requires { ⌜ PickedIn (now graphs) task picked ⌝ }
     ensures { λ r. ⌜ (r .circle ≡ hasCircle (closedOver (now (own .entry)) (graphsOf (now (graphs .entry)) task picked)))
         × (r .graph ≡ rootGraph attributes (closedOver (now (own .entry)) (graphsOf (now (graphs .entry)) task picked))) ⌝ }
@@ -121,9 +124,9 @@ fn seen(symbols: &[u16], graphs: &[u64], stored: usize, symbol: u16, graph: u64)
 fn judge(
     symbols: &[u16],
     graphs: &[u64],
-    own: &[u64; 64],
+    own: &[u64; NODES],
     task: Task,
-    picked: [u16; 7],
+    picked: [u16; SLOTS],
     run: Run,
 ) -> Verdict
     requires { ⌜ (run .stored ≤ length (now symbols)) × (run .stored ≤ length (now graphs)) × PickedIn (now graphs) task picked ⌝ }
@@ -146,7 +149,7 @@ fn judge(
 }
 
 // Whether the first `count` numbers are of stored entries.
-fn all_stored(picked: [u16; 7], count: usize, stored: usize) -> bool
+fn all_stored(picked: [u16; SLOTS], count: usize, stored: usize) -> bool
     requires { ⌜ count ≤ 7 ⌝ }
     ensures { λ r. ⌜ r ≡ allStored picked stored count ⌝ }
 {
@@ -162,10 +165,10 @@ fn all_stored(picked: [u16; 7], count: usize, stored: usize) -> bool
 }
 
 // Whether the task, the run and the combination are such that slices with this room hold them.
-fn fitting(room: usize, task: Task, picked: [u16; 7], run: Run) -> bool
+fn fitting(room: usize, task: Task, picked: [u16; SLOTS], run: Run) -> bool
     ensures { λ r. ⌜ r ≡ fits room task picked run ⌝ }
 {
-    if 7 < task.count {
+    if SLOTS < task.count {
         return false;
     }
     if task.room < run.stored {
@@ -178,11 +181,11 @@ fn fitting(room: usize, task: Task, picked: [u16; 7], run: Run) -> bool
 }
 
 // Stores the seven slots of an entry.
-fn put_row(kids: &mut [u16], at: usize, picked: [u16; 7])
+fn put_row(kids: &mut [u16], at: usize, picked: [u16; SLOTS])
     requires { ⌜ at + 7 ≤ length (now kids) ⌝ }
     ensures { λ _. ⌜ now (kids .exit) ≡ sets (now (kids .entry)) at picked ⌝ }
 {
-    for k in 0..7 {
+    for k in 0..SLOTS {
         kids[at + k] = picked[k];
     }
 }
@@ -193,13 +196,13 @@ fn going_on(left: u32, stored: usize) -> Run
     Run {
         going: true,
         answer: Answer::Noncircular,
-        root: [0u16; 7],
+        root: [0u16; SLOTS],
         left,
         stored,
     }
 }
 
-fn stopped(answer: Answer, root: [u16; 7], left: u32, stored: usize) -> Run
+fn stopped(answer: Answer, root: [u16; SLOTS], left: u32, stored: usize) -> Run
     ensures { λ r. ⌜ r ≡ stops answer root left stored ⌝ }
 {
     Run {
@@ -217,9 +220,9 @@ pub fn try_one(
     graphs: &mut [u64],
     productions: &mut [u16],
     kids: &mut [u16],
-    own: &[u64; 64],
+    own: &[u64; NODES],
     task: Task,
-    picked: [u16; 7],
+    picked: [u16; SLOTS],
     run: Run,
 ) -> Run
     ensures { λ r. ⌜ Tried task (now (own .entry)) picked run
@@ -234,15 +237,15 @@ pub fn try_one(
     let left = run.left;
     let stored = run.stored;
     match verdict {
-        Verdict::Steps => stopped(Answer::OutOfSteps, [0u16; 7], left, stored),
+        Verdict::Steps => stopped(Answer::OutOfSteps, [0u16; SLOTS], left, stored),
         Verdict::Circle => stopped(Answer::Circular(task.number), picked, left - 1, stored),
         Verdict::Known => going_on(left - 1, stored),
-        Verdict::Full => stopped(Answer::OutOfRoom, [0u16; 7], left - 1, stored),
+        Verdict::Full => stopped(Answer::OutOfRoom, [0u16; SLOTS], left - 1, stored),
         Verdict::New(graph) => {
             symbols[stored] = task.symbol;
             graphs[stored] = graph;
             productions[stored] = task.number;
-            put_row(kids, 7 * stored, picked);
+            put_row(kids, SLOTS * stored, picked);
             going_on(left - 1, stored + 1)
         }
     }
