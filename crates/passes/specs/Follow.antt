@@ -10,6 +10,7 @@ use Rattle.numbers.specs.Lists.{both}
 use Rattle.grammar.specs.Grammar.{production, edgesOf}
 use Rattle.grammar.specs.Table.{attributes, grammarOf}
 use Rattle.graph.specs.Rows.{own, hasCircle, rootGraph}
+use Rattle.graph.specs.Parts.{mostNodes}
 use Rattle.rules.specs.declared.Answer.{Answer}
 use Rattle.rules.specs.declared.Entry.{Entry}
 use Rattle.rules.specs.declared.Report.{Report}
@@ -93,7 +94,7 @@ taskOf bs p room first =
     }
 
 unfoldable pub ownOf : List ℕ → ℕ → List ℕ
-ownOf bs p = own attributes (edgesOf (grammarOf bs) p) (replicate 64 0)
+ownOf bs p = own attributes (edgesOf (grammarOf bs) p) (replicate mostNodes 0)
 
 -- each combination behind the numbers that are chosen already
 unfoldable pub under : List ℕ → List (List ℕ) → List (List ℕ)

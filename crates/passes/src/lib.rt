@@ -12,12 +12,14 @@ ghost use Rattle.steps.specs.Step.{goesOn};
 ghost use Rattle.passes.specs.Slices.{lent, atEntry, atExit, roomOf, Tells, Tested, entriesTo};
 ghost use Rattle.passes.specs.Follow.{reportOf, Follows, Roomy, InTurn, Picked, systemBy, taskOf, ownOf, combosFrom, occursIn, allIn};
 use grammar::Checked;
+use grammar::NODES;
+use grammar::SLOTS;
 use rules::Answer;
 use rules::Report;
 use steps::Run;
 use steps::Task;
 
-fn put(picked: [u16; 7], at: usize, entry: u16) -> [u16; 7]
+fn put(picked: [u16; SLOTS], at: usize, entry: u16) -> [u16; SLOTS]
     requires { ⌜ at < 7 ⌝ }
     ensures { λ r. ⌜ r ≡ set picked at entry ⌝ }
 {
@@ -32,10 +34,10 @@ fn level(
     graphs: &mut [u64],
     productions: &mut [u16],
     kids: &mut [u16],
-    own: &[u64; 64],
+    own: &[u64; NODES],
     task: Task,
     left: usize,
-    picked: [u16; 7],
+    picked: [u16; SLOTS],
     run: Run,
 ) -> Run
     requires { ⌜ (left ≤ task .count) × InTurn task (lent symbols graphs productions kids) run × Picked task (task .count - left) picked ⌝ }
@@ -132,7 +134,7 @@ fn task_of(table: &[u8], number: usize, room: usize, first: usize) -> Task
 }
 
 // The own rows of the production `number`.
-fn own_of(table: &[u8], number: usize) -> [u64; 64]
+fn own_of(table: &[u8], number: usize) -> [u64; NODES]
     requires { ⌜ (refusal (now table) ≡ 0) × (number < P (now table)) ⌝ }
     ensures { λ r. ⌜ r ≡ ownOf (now (table .entry)) number ⌝ }
 {
@@ -169,7 +171,7 @@ fn turn(
         &own,
         task,
         task.count,
-        [0u16; 7],
+        [0u16; SLOTS],
         run,
     )
 }
@@ -204,7 +206,7 @@ fn pass(
 }
 
 // The report after `begun` passes: the closures that are not left have been made.
-fn ended(answer: Answer, root: [u16; 7], limit: u32, run: Run, begun: u16) -> Report
+fn ended(answer: Answer, root: [u16; SLOTS], limit: u32, run: Run, begun: u16) -> Report
     requires { ⌜ (run .left ≤ limit) × (run .stored ≤ 4096) ⌝ }
     ensures { λ r. ⌜ r ≡ reportOf answer root limit run begun ⌝ }
 {
@@ -224,7 +226,7 @@ fn begins(limit: u32) -> Run
     Run {
         going: true,
         answer: Answer::Noncircular,
-        root: [0u16; 7],
+        root: [0u16; SLOTS],
         left: limit,
         stored: 0,
     }
@@ -258,7 +260,7 @@ fn passes(
             return ended(answer, root, limit, now, begun);
         }
         if now.stored == before {
-            return ended(Answer::Noncircular, [0u16; 7], limit, now, begun);
+            return ended(Answer::Noncircular, [0u16; SLOTS], limit, now, begun);
         }
     }
 }
@@ -283,7 +285,7 @@ pub fn test(
             closures: 0,
             entries: 0,
             passes: 0,
-            root: [0u16; 7],
+            root: [0u16; SLOTS],
         };
     }
     let room = steps::room_of(symbols.len(), graphs.len(), productions.len(), kids.len());
