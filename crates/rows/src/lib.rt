@@ -1,6 +1,5 @@
 // What stands at a place of a lent row of entries, and where an entry is first found.
 ghost use mathlib.Core.Path.{_≡_};
-ghost use Prim.Native.Nat.{min};
 ghost use lib.ListN.{set, take};
 ghost use Rattle.rules.specs.Passes.{entry, noEntry};
 ghost use Rattle.rows.specs.Rows.{of, firstOf};
@@ -36,12 +35,6 @@ pub fn put_entry(entries: &mut [Entry], to: usize, e: Entry)
     }
 }
 
-fn smaller(a: usize, b: usize) -> usize
-    ensures { λ r. ⌜ r ≡ min a b ⌝ }
-{
-    if a <= b { a } else { b }
-}
-
 // Whether it is an entry of this symbol with this graph.
 fn is_of(e: Entry, symbol: u16, graph: u64) -> bool
     ensures { λ r. ⌜ r ≡ of symbol graph e ⌝ }
@@ -57,7 +50,7 @@ fn is_of(e: Entry, symbol: u16, graph: u64) -> bool
 pub fn lookup(entries: &[Entry], n: usize, symbol: u16, graph: u64) -> usize
     ensures { λ r. ⌜ r ≡ firstOf symbol graph (take n (now (entries .entry))) ⌝ }
 {
-    let count = smaller(n, entries.len());
+    let count = numbers::smaller(n, entries.len());
     let mut i: usize = 0;
     while i < count {
         if is_of(entries[i], symbol, graph) {
