@@ -1,14 +1,13 @@
 -- What the test over a row of entries promises. Assumes nothing.
 use mathlib.Core.List.{List}
 use mathlib.Core.Path.{_≡_}
-use Prim.Native.Nat.{ℕ, min}
-use lib.ListN.{length, replicate}
+use Prim.Native.Nat.{ℕ, _*_, _≤_, min}
+use lib.ListN.{length}
 use Rattle.numbers.specs.Lists.{written}
 use Rattle.rules.specs.declared.Entry.{Entry}
 use Rattle.rules.specs.declared.Report.{Report}
-use Rattle.rules.specs.Passes.{Outcome, noEntry}
 use Rattle.rules.specs.Test.{test}
-use Rattle.records.specs.declared.Ran.{Ran}
+use Rattle.passes.specs.Slices.{Slices}
 
 -- the room is the number of records lent, at most 4096
 abbrev pub roomOf : List Entry → ℕ
@@ -20,11 +19,7 @@ pub record Tested (bs : List ℕ) (limit : ℕ) (before : List Entry) (r : Repor
   pub report : r ≡ test bs limit (roomOf before) .report
   pub entries : after ≡ written (test bs limit (roomOf before) .entries) before
 
--- ---- an outcome by value
-
--- as many entries of zeros as a row may ever hold
-unfoldable pub zeros : List Entry
-zeros = replicate 4096 noEntry
-
-abbrev pub ranOf : Outcome → Ran
-ranOf o = record { report = o .report; stored = length (o .entries); rows = written (o .entries) zeros }
+-- the parallel slices have places for n entries
+abbrev pub PlacesFor : ℕ → Slices → Type 0
+PlacesFor n σ =
+    (n ≤ length (σ .symbols)) × (n ≤ length (σ .graphs)) × (n ≤ length (σ .productions)) × (7 * n ≤ length (σ .kids))

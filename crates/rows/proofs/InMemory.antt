@@ -1,6 +1,6 @@
 -- How an entry lies in memory, for every walk over a row, here and in `records`. No walk looks into an entry: it is read, stored and handed
 -- on whole, by the names that stand here. So an entry with one field more changes `size` here (the factor of the index in `rt mir rows`), and
--- in the code what names the fields: `no_entry` here, `no_entries` and `entry_of` in `records`; no walk changes.
+-- in the code what names the fields: `no_entry` here and `entry_of` in `records`; no walk changes.
 -- Assumes `Given`.
 use mathlib.Core.List.{List, [], _∷_}
 use Prim.Native.Nat.{ℕ, _*_, _<_, _^_}
@@ -43,16 +43,6 @@ vals = laws.vals entry.the-type of.the-laws
 
 pub tells : Tells Row (Is Row) vals
 tells = laws.tells entry.the-type of.the-laws
-
--- an entry as an element of an array that is a field of a struct
-abbrev pub fieldRow : RattleType
-fieldRow = entry.the-field .row
-
-abbrev pub into : Entry → fieldRow .Denot
-into = entry.the-field .into
-
-abbrev pub fieldVal : fieldRow .Denot → Val
-fieldVal = of.the-field-laws .val
 
 module _ {M : Type 1} (𝓤 : URA M) (H : Heap 𝓤) (A : Atoms 𝓤) where
   pub makes : Makes 𝓤 H A Row (Is Row)

@@ -2,6 +2,7 @@
 pub mod Walking
 pub mod InMemory
 pub mod Arrays
+pub mod Again
 pub mod Writing
 pub mod First
 pub mod OneReading

@@ -1,11 +1,10 @@
 -- A list that is written over the front of another, place by place. Assumes nothing.
 use mathlib.Core.Path.{_≡_, refl, sym, ap, _∙_}
-use mathlib.Core.List.{List, [], _∷_, _++_}
-use Prim.Native.Nat.{ℕ, _+_, _≤_, _<_}
+use mathlib.Core.List.{List, [], _∷_, _++_, append-assoc}
+use Prim.Native.Nat.{ℕ, _≤_, _<_}
 use native.Mathlib.Omega.{arith}
-use native.Mathlib.Numerals.{add-one}
-use lib.ListN.{length, getD, set, take, length-take}
-use lib.Seq.{length-front, length-take-le, take-suc}
+use lib.ListN.{length, set, take, drop, take-append-drop}
+use lib.Seq.{length-front, length-take-le, drop-append-le}
 use Rattle.numbers.specs.Lists.{written}
 
 module _ {A : Type 0} where
@@ -19,15 +18,10 @@ module _ {A : Type 0} where
   written-snoc (x ∷ xs) [] e l = absurd (omega arith)
   written-snoc (x ∷ xs) (y ∷ ys) e l = ap (λ (zs : List A). x ∷ zs) (written-snoc xs ys e (omega arith))
 
-  -- the first i of xs, and one more
-  module _ (xs ys : List A) (i : ℕ) where
-    pub length-taken : i ≤ length ys → length (written (take i xs) ys) ≡ length ys
-    length-taken l = length-written (take i xs) ys (omega (arith, length-take i xs))
-
-    pub written-more : (d : A) → i < length xs → i < length ys → set (written (take i xs) ys) i (getD xs i d) ≡ written (take (i + 1) xs) ys
-    written-more d l h =
-        let long : length (take i xs) ≡ i = length-take-le i xs (omega arith) in
-        ap (λ (j : ℕ). set (written (take i xs) ys) j (getD xs i d)) (sym long)
-        ∙ written-snoc (take i xs) ys (getD xs i d) (omega arith)
-        ∙ ap (λ (zs : List A). written zs ys) (sym (take-suc xs i d l))
-        ∙ ap (λ (j : ℕ). written (take j xs) ys) (sym (add-one i))
+  -- in a part at the front, with the rest behind it
+  pub written-front : (new old : List A) (n : ℕ) → length new ≤ n → n ≤ length old → written new (take n old) ++ drop n old ≡ written new old
+  written-front new old n l h =
+      append-assoc new (drop (length new) (take n old)) (drop n old)
+      ∙ ap (λ (ys : List A). new ++ ys)
+      (sym (drop-append-le (length new) (take n old) (drop n old) (omega (arith, length-take-le n old h)))
+      ∙ ap (drop (length new)) (take-append-drop n old))

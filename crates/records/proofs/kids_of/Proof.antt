@@ -9,8 +9,6 @@ use borrow.Author.Needs.{needs}
 use Rattle.numbers.proofs.Parts.{copied-more}
 use Rattle.records.proofs.kids_of.Statement.{statement}
 use Rattle.records.proofs.kids_of.Tie as tie
-use Rattle.records.proofs.kids_of.Reads as reads
-use Rattle.records.proofs.kids_of.Lts as lts
 
 abbrev Inv-loop : tie.InvT-loop
 Inv-loop kids i slots₀ k₀ slots k = (k ≤ 7) × (length slots ≡ 7) × (take k slots ≡ take k (drop (7 * i) kids))
