@@ -16,7 +16,7 @@ use Rattle.passes.specs.Follow.{stateOf, ranBy, ranOf, Beyond, Kept, Fol
 
 -- ---- what is kept
 
-pub drop-later : (n m : ℕ) (a b : List ℕ) → n ≤ m → drop n a ≡ drop n b → drop m a ≡ drop m b
+pub drop-later : {A : Type 0} (n m : ℕ) (a b : List A) → n ≤ m → drop n a ≡ drop n b → drop m a ≡ drop m b
 drop-later n m a b l h =
     let e : n + (m - n) ≡ m = omega arith in
     ap (λ (i : ℕ). drop i a) (sym e) ∙ sym (drop-drop (m - n) n a) ∙ ap (drop (m - n)) h ∙ drop-drop (m - n) n b ∙ ap (λ (i : ℕ). drop i b) e
