@@ -15,8 +15,9 @@ use Rattle.rules.proofs.Stored.{Counted, counted-test}
 use Rattle.passes.proofs.Entries.{entry-at}
 use Rattle.passes.proofs.Following.{drop-later}
 use Rattle.passes.proofs.Told.{length-kids, entries-told}
+use Rattle.rows.proofs.Writing.{length-written}
 use Rattle.verdict.specs.Demands.{back, RoomExactly}
-use Rattle.verdict.specs.Program.{Stands, RestBefore, Demanded, Program}
+use Rattle.verdict.specs.Program.{Stands, RestBefore, LongAsBefore, Demanded, Program}
 use Rattle.verdict.proofs.Demands.{refused-exactly, entries-shown, circular-shown, noncircular-none, limits-kept, steps-exactly, room-exactly, room-counts, never-still, stands-still}
 
 -- ---- read off the slices
@@ -83,6 +84,23 @@ module _ (bs : List ℕ) (limit : ℕ) (σ : Slices) (r : Report) (τ : Slices) 
   few : r .entries ≤ roomOf σ
   few = omega (arith, sound .sound .fits, count)
 
+  long : LongAsBefore σ τ
+  long = record {
+    symbols =
+        ap length (promised .symbols)
+        ∙ length-written (map (λ e. e .symbol) es) (σ .symbols) (omega (arith, few, count, length-map es (λ e. e .symbol)));
+    graphs =
+        ap length (promised .graphs)
+        ∙ length-written (map (λ e. e .graph) es) (σ .graphs) (omega (arith, few, count, length-map es (λ e. e .graph)));
+    productions =
+        ap length (promised .productions)
+        ∙ length-written (map (λ e. e .production) es) (σ .productions)
+        (omega (arith, few, count, length-map es (λ e. e .production)));
+    kids =
+        ap length (promised .kids)
+        ∙ length-written (allKids es) (σ .kids) (omega (arith, few, count, length-kids es (sound .sound .slots)));
+  }
+
   whole : readOut r τ ≡ back bs limit (roomOf σ)
   whole =
       let same : entriesTo τ (r .entries) ≡ back bs limit (roomOf σ) .entries = ap (entriesTo τ) (sym count) ∙ told in
@@ -128,6 +146,7 @@ carried bs limit σ r τ promised =
     let w = whole bs limit σ r τ promised in
     record {
       report = promised .report;
+      long = long bs limit σ r τ promised;
       entries = stands bs limit σ r τ promised;
       rest = rest bs limit σ r τ promised;
       beyond = rest-later bs limit σ r τ promised _ (omega (arith, few bs limit σ r τ promised));

@@ -22,6 +22,8 @@ use Rattle.rules.specs.Passes.{Outcome, numbered, numberOf, productionOf, entry
 use Rattle.rules.specs.Test.{systemOf, systemIn, byNumber}
 use Rattle.rules.proofs.Stored.{length-seven, counted-test, slots-seven}
 use Rattle.passes.specs.Slices as slices
+use Rattle.passes.proofs.Following.{drop-later}
+use Rattle.rows.proofs.Writing.{length-written}
 use Rattle.records.specs.Records.{roomOf, Tested}
 use Rattle.kusillaqe.specs.Flat.{flat}
 use Rattle.orders.specs.Answers as runs
@@ -57,13 +59,21 @@ module _ (bs : List ℕ) (limit : ℕ) (before : List Entry) (r : Report) (after
   row-untouched : (o : Outcome) → back bs limit (roomOf before) ≡ o → o .entries ≡ [] → after ≡ before
   row-untouched o h none = promised .entries ∙ ap (λ (es : List Entry). written es before) (ap (λ (x : Outcome). x .entries) h ∙ none)
 
+  row-few : r .entries ≤ roomOf before
+  row-few = omega (arith, counted-test bs limit R .sound .fits, row-count)
+
+  row-rest : drop (r .entries) after ≡ drop (r .entries) before
+  row-rest = behind (back bs limit R .entries) before after (r .entries) (promised .entries) row-count
+
   carried-row : RowProgram bs limit before r after
   carried-row =
       let w : readRow r after ≡ back bs limit R = λ j. record { report = promised .report j; entries = row-front j } in
       record {
         report = promised .report;
+        long = ap length (promised .entries) ∙ length-written (back bs limit R .entries) before (omega (arith, row-few, row-count));
         entries = λ k l. sym (getD-take (r .entries) after k noEntry l) ∙ ap (λ (es : List Entry). entry es k) row-front;
-        rest = behind (back bs limit R .entries) before after (r .entries) (promised .entries) row-count;
+        rest = row-rest;
+        beyond = drop-later (r .entries) 4096 after before (omega (arith, row-few)) row-rest;
         untouched = λ k b. rw (row-untouched _ (refused bs k b limit R) refl);
         whole = w;
         demanded = demanded bs limit R (readRow r after) w;

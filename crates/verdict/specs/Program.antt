@@ -26,6 +26,13 @@ pub record RestBefore (n : ℕ) (σ τ : Slices) : Type 0 where
   pub productions : drop n (τ .productions) ≡ drop n (σ .productions)
   pub kids : drop (7 * n) (τ .kids) ≡ drop (7 * n) (σ .kids)
 
+-- each slice is as long as before
+pub record LongAsBefore (σ τ : Slices) : Type 0 where
+  pub symbols : length (τ .symbols) ≡ length (σ .symbols)
+  pub graphs : length (τ .graphs) ≡ length (σ .graphs)
+  pub productions : length (τ .productions) ≡ length (σ .productions)
+  pub kids : length (τ .kids) ≡ length (σ .kids)
+
 -- all that is asked of one outcome, for a limit and a room R
 pub record Demanded (bs : List ℕ) (limit R : ℕ) (o : Outcome) : Type 0 where
   -- 1: refused by number exactly
@@ -46,6 +53,7 @@ pub record Demanded (bs : List ℕ) (limit R : ℕ) (o : Outcome) : Type 0 where
 pub record Program (bs : List ℕ) (limit : ℕ) (σ : Slices) (r : Report) (τ : Slices) : Type 0 where
   -- the report with its counts and its root, every entry, and the rest of the room; after a refusal all of it
   pub report : r ≡ back bs limit (roomOf σ) .report
+  pub long : LongAsBefore σ τ
   pub entries : (k : ℕ) → k < r .entries → Stands bs limit σ τ k
   pub rest : RestBefore (r .entries) σ τ
   -- however many places are lent, those beyond 4,096 entries are never used
