@@ -150,7 +150,7 @@ carried bs limit σ r τ promised =
       entries = stands bs limit σ r τ promised;
       rest = rest bs limit σ r τ promised;
       beyond = rest-later bs limit σ r τ promised _ (omega (arith, few bs limit σ r τ promised));
-      untouched = λ k b. untouched bs limit σ r τ promised _ (refused-exactly bs limit (roomOf σ) _ .nothing b) refl;
+      untouched = λ k b. rw (untouched bs limit σ r τ promised _ (refused-exactly bs limit (roomOf σ) _ .nothing b) refl);
       whole = w;
       demanded = demanded bs limit (roomOf σ) (readOut r τ) w;
     }
