@@ -1,10 +1,11 @@
--- Laws that several crates cite: bytes past the end, runs of numbers, parts of a list, tests over a list, members, orders, bits, paths, one
--- reading.
+-- Laws that several crates cite: bytes past the end, runs of numbers, parts of a list, tests over a list and over numbers, members, orders,
+-- bits, paths, one reading.
 pub mod Bytes
 pub mod Ranges
 pub mod Parts
 pub mod Every
 pub mod Decides
+pub mod Downward
 pub mod Keeping
 pub mod Members
 pub mod Ordered

@@ -1,5 +1,5 @@
--- Runs of numbers, tests over a list, lists with no two equal elements, the order of lists, and what is written over the front of a list.
--- Assumes nothing.
+-- Runs of numbers, tests over the numbers below a bound and over a list, lists with no two equal elements, the order of lists, and what
+-- is written over the front of a list. Assumes nothing.
 use mathlib.Core.Bool.{Bool, true, false, _||_, cond}
 use mathlib.Core.List.{List, [], _∷_, _++_, List·Memᴰ}
 use mathlib.Core.Logic.{_⊎_}
@@ -17,6 +17,16 @@ both false b = false
 unfoldable pub upFrom : ℕ → ℕ → List ℕ
 upFrom i zero = []
 upFrom i (suc n) = i ∷ upFrom (suc i) n
+
+-- the test passes at each number below n
+unfoldable pub eachBelow : (ℕ → Bool) → ℕ → Bool
+eachBelow f zero = true
+eachBelow f (suc n) = both (f n) (eachBelow f n)
+
+-- the test passes at some number below n
+unfoldable pub someBelow : (ℕ → Bool) → ℕ → Bool
+someBelow f zero = false
+someBelow f (suc n) = f n || someBelow f n
 
 module _ {A : Type 0} where
   -- the test passes at each element

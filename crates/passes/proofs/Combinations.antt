@@ -1,6 +1,6 @@
 -- Combinations in parts: one level of right symbols, whose candidates are met in ascending order. Assumes nothing.
 use mathlib.Core.Path.{_≡_, refl, sym, ap, _∙_}
-use mathlib.Core.Bool.{Bool, true, false, _||_, false≢true}
+use mathlib.Core.Bool.{Bool, false}
 use mathlib.Core.List.{List, [], _∷_, _++_, map, append-assoc, append-nil, map-append}
 use Prim.Native.Nat.{ℕ, zero, suc, _+_, _≤_, _<_}
 use native.Mathlib.Omega.{arith}
@@ -9,7 +9,8 @@ use lib.Dec.{eqb}
 use lib.ListN.{length, getD, set, take, drop, length-map, length-take, drop-of-length-le}
 use lib.Seq.{drop-cons, getD-take, take-suc-set}
 use borrow.Author.Tests.{eq-eqb, ne-eqb}
-use Rattle.numbers.specs.Lists.{both, upFrom, keep}
+use Rattle.numbers.specs.Lists.{upFrom, keep}
+use Rattle.numbers.proofs.Downward.{each-lacks, some-lacks}
 use Rattle.numbers.proofs.Keeping.{up-more, keep-append}
 use Rattle.numbers.proofs.Members.{at-map}
 use Rattle.rules.specs.declared.Entry.{Entry}
@@ -98,10 +99,6 @@ module _ (k : Task) (es : List Entry) (n : ℕ) (picked : List ℕ) where
 
 -- ---- a right symbol with no entry leaves no combination
 
-none-of : (a b : Bool) → (a || b) ≡ false → (a ≡ false) × (b ≡ false)
-none-of true b h = absurd (false≢true (sym h))
-none-of false b h = (refl, h)
-
 prefixed-none : (xs : List ℕ) → prefixed xs [] ≡ []
 unfolding prefixed
 prefixed-none [] = refl
@@ -113,42 +110,22 @@ combinations-none [] j l h = absurd (omega arith)
 combinations-none (xs ∷ xss) zero l h = rw h
 combinations-none (xs ∷ xss) (suc j) l h = rw (combinations-none xss j (omega arith) h, prefixed-none xs)
 
-module _ (σ : Slices) (first y : ℕ) where
-  keep-none : (n : ℕ) → n ≤ first → occursIn (σ .symbols) y n ≡ false
-      → keep (λ i. eqb (entry (entriesTo σ first) i .symbol) y) (upFrom 0 n) ≡ []
-  unfolding occursIn keep upFrom entryAt
-  keep-none zero l h = refl
-  keep-none (suc n) l h =
-      let w = none-of (eqb (getD (σ .symbols) n 0) y) (occursIn (σ .symbols) y n) h in
-      let f : ℕ → Bool = λ i. eqb (entry (entriesTo σ first) i .symbol) y in
-      let e : f n ≡ false = ap (λ (x : Entry). eqb (x .symbol) y) (entry-at σ first n l) ∙ w .0 in
-      ap (keep f) (ap (upFrom 0) (sym (add-one n)) ∙ sym (up-more n 1))
-      ∙ keep-append f (upFrom 0 n) (n ∷ [])
-      ∙ rw (keep-none n (omega arith) (w .1), e)
+keep-none : (t : ℕ → Bool) (i n : ℕ) → ((k : ℕ) → i ≤ k → k < i + n → t k ≡ false) → keep t (upFrom i n) ≡ []
+unfolding keep upFrom
+keep-none t i zero h = refl
+keep-none t i (suc n) h = rw (h i (omega arith) (omega arith)) (keep-none t (suc i) n (λ k l u. h k (omega arith) (omega arith)))
 
-  candidates-none : occursIn (σ .symbols) y first ≡ false → candidates (entriesTo σ first) y ≡ []
-  unfolding candidates
-  candidates-none h = rw (length-entries σ first) (keep-none first (omega arith) h)
-
-Lacks : List ℕ → List ℕ → ℕ → ℕ → Type 0
-Lacks symbols rights first n = (j : ℕ) × (j < n) × (occursIn symbols (getD rights j 0) first ≡ false)
-
-lacking : (symbols rights : List ℕ) (first n : ℕ) → allIn symbols rights first n ≡ false → Lacks symbols rights first n
-unfolding allIn both Lacks
-lacking symbols rights first zero h = absurd (false≢true (sym h))
-lacking symbols rights first (suc n) h = go (occursIn symbols (getD rights n 0) first) refl h (lacking symbols rights first n)
-  where
-    go : (b : Bool) → occursIn symbols (getD rights n 0) first ≡ b → both b (allIn symbols rights first n) ≡ false
-        → (allIn symbols rights first n ≡ false → Lacks symbols rights first n)
-        → Lacks symbols rights first (suc n)
-    go true e q more = let w = more q in (w .0, omega (arith, w .1), w .2)
-    go false e q more = (n, omega arith, e)
+candidates-none : (σ : Slices) (first y : ℕ) → occursIn (σ .symbols) y first ≡ false → candidates (entriesTo σ first) y ≡ []
+unfolding candidates entryAt
+candidates-none σ first y h =
+    rw (length-entries σ first)
+    (keep-none _ 0 first (λ i l u. ap (λ (x : Entry). eqb (x .symbol) y) (entry-at σ first i (omega arith)) ∙ some-lacks _ first h i (omega arith)))
 
 pub combos-none : (k : Task) (σ : Slices) (picked : List ℕ) → k .count ≤ length (k .rights)
     → allIn (σ .symbols) (k .rights) (k .first) (k .count) ≡ false → combosFrom k (entriesTo σ (k .first)) 0 picked ≡ []
-unfolding combosFrom under Lacks
+unfolding combosFrom under
 combos-none k σ picked l h =
-    let w = lacking (σ .symbols) (k .rights) (k .first) (k .count) h in
+    let w = each-lacks _ (k .count) h in
     let es = entriesTo σ (k .first) in
     let rs = take (k .count) (k .rights) in
     let long : length rs ≡ k .count = omega (arith, length-take (k .count) (k .rights)) in

@@ -1,6 +1,6 @@
 -- The entries in the slices: how many they are, what each of them holds, and a store of one more. Assumes nothing.
 use mathlib.Core.Path.{_≡_, refl, sym, ap, ap₂, _∙_}
-use mathlib.Core.Bool.{Bool, true, false, _||_, or-assoc, or-comm, or-false}
+use mathlib.Core.Bool.{Bool, _||_, or-assoc, or-comm, or-false}
 use mathlib.Core.List.{List, [], _∷_, _++_, map, append-assoc, append-nil, map-append}
 use mathlib.Core.Logic.{⊎-elim}
 use Prim.Native.Nat.{ℕ, zero, suc, _+_, _*_, _-_, _≤_, _<_}
@@ -10,14 +10,13 @@ use native.Mathlib.Numerals.{add-one}
 use lib.Dec.{eqb}
 use lib.ListN.{length, getD, set, take, drop, length-append, length-set, take-append-drop, List·getD-append}
 use lib.Seq.{sets, sets-eq, length-sets, length-take-le, take-suc, take-add, drop-at, getD-at, getD-set-same, getD-set-other, drop-set-lt, drop-set-add, take-set-le, take-append-seam}
-use borrow.Author.Tests.{eq-eqb, ne-eqb}
-use Rattle.numbers.specs.Lists.{both, written}
+use Rattle.numbers.specs.Lists.{both, someBelow, written}
 use Rattle.rules.specs.declared.Entry.{Entry}
 use Rattle.rules.specs.Passes.{noEntry, entry, known}
 use Rattle.passes.specs.Slices.{Slices, slices, allKids, entryAt, entriesTo}
 use Rattle.steps.specs.Slices.{put}
 use Rattle.steps.specs.Step.{seenIn}
-use Rattle.passes.specs.Follow.{occursIn, allIn, Beyond}
+use Rattle.passes.specs.Follow.{Beyond}
 
 -- ---- a list of entries that grows at its end
 
@@ -56,7 +55,7 @@ known-append y g (e ∷ a) b =
     ∙ sym (or-assoc (both (eqb (e .symbol) y) (eqb (e .graph) g)) (known y g a) (known y g b))
 
 pub seen-known : (σ : Slices) (y g n : ℕ) → seenIn (σ .symbols) (σ .graphs) y g n ≡ known y g (entriesTo σ n)
-unfolding seenIn known entriesTo entryAt
+unfolding someBelow known entriesTo entryAt
 seen-known σ y g zero = refl
 seen-known σ y g (suc n) =
     let here = both (eqb (getD (σ .symbols) n 0) y) (eqb (getD (σ .graphs) n 0) g) in
@@ -72,34 +71,6 @@ graphs-same σ n [] h = refl
 graphs-same σ n (i ∷ combo) h =
     ap₂ (λ (g : ℕ) (gs : List ℕ). g ∷ gs) (ap (λ (e : Entry). e .graph) (sym (entry-at σ n i (h 0 (omega arith)))))
     (graphs-same σ n combo (λ j l. h (suc j) (omega arith)))
-
--- ---- the searches, from the last entry down
-
-module _ (symbols : List ℕ) (y : ℕ) where
-  pub occurs-none : occursIn symbols y 0 ≡ false
-  unfolding occursIn
-  occurs-none = refl
-
-  pub occurs-hit : (n : ℕ) → getD symbols n 0 ≡ y → occursIn symbols y (suc n) ≡ true
-  unfolding occursIn
-  occurs-hit n h = simp (eq-eqb _ _ h)
-
-  pub occurs-other : (n : ℕ) → (getD symbols n 0 ≡ y → ⊥) → occursIn symbols y (suc n) ≡ occursIn symbols y n
-  unfolding occursIn
-  occurs-other n h = simp (ne-eqb _ _ h)
-
-module _ (symbols rights : List ℕ) (first : ℕ) where
-  pub all-none : allIn symbols rights first 0 ≡ true
-  unfolding allIn
-  all-none = refl
-
-  pub all-more : (n : ℕ) → occursIn symbols (getD rights n 0) first ≡ true → allIn symbols rights first (suc n) ≡ allIn symbols rights first n
-  unfolding allIn both
-  all-more n h = rw h
-
-  pub all-lacks : (n : ℕ) → occursIn symbols (getD rights n 0) first ≡ false → allIn symbols rights first (suc n) ≡ false
-  unfolding allIn both
-  all-lacks n h = rw h
 
 -- ---- one more entry
 

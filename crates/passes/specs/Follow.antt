@@ -1,12 +1,12 @@
 -- The passes over lent slices, where the closures that are left are counted down: what the slices and a run say in the words of the
 -- rules, and what it is to follow a rule. Assumes nothing.
-use mathlib.Core.Bool.{Bool, true, false, _||_}
-use mathlib.Core.List.{List, [], _∷_, _++_, map}
+use mathlib.Core.Bool.{Bool, true, false}
+use mathlib.Core.List.{List, _++_, map}
 use mathlib.Core.Path.{_≡_}
-use Prim.Native.Nat.{ℕ, zero, suc, _-_, _*_, _≤_, _<_}
+use Prim.Native.Nat.{ℕ, _-_, _*_, _≤_, _<_}
 use lib.Dec.{eqb}
 use lib.ListN.{length, getD, take, drop, replicate}
-use Rattle.numbers.specs.Lists.{both}
+use Rattle.numbers.specs.Lists.{eachBelow, someBelow}
 use Rattle.grammar.specs.Grammar.{production, edgesOf}
 use Rattle.grammar.specs.Table.{attributes, grammarOf}
 use Rattle.graph.specs.Rows.{own, hasCircle, rootGraph}
@@ -105,14 +105,12 @@ unfoldable pub combosFrom : Task → List Entry → ℕ → List ℕ → List (L
 combosFrom k es n picked = under (take n picked) (combinations (map (candidates es) (drop n (take (k .count) (k .rights)))))
 
 -- some of the first n entries has the symbol
-unfoldable pub occursIn : List ℕ → ℕ → ℕ → Bool
-occursIn symbols y zero = false
-occursIn symbols y (suc n) = eqb (getD symbols n 0) y || occursIn symbols y n
+abbrev pub occursIn : List ℕ → ℕ → ℕ → Bool
+occursIn symbols y n = someBelow (λ i. eqb (getD symbols i 0) y) n
 
 -- each of the first n right symbols has one among the first `first` entries
-unfoldable pub allIn : List ℕ → List ℕ → ℕ → ℕ → Bool
-allIn symbols rights first zero = true
-allIn symbols rights first (suc n) = both (occursIn symbols (getD rights n 0) first) (allIn symbols rights first n)
+abbrev pub allIn : List ℕ → List ℕ → ℕ → ℕ → Bool
+allIn symbols rights first n = eachBelow (λ j. occursIn symbols (getD rights j 0) first) n
 
 -- a turn goes on: the room holds what is stored, and what was stored when the turn began still is
 pub record InTurn (k : Task) (σ : Slices) (r : Run) : Type 0 where

@@ -4,7 +4,7 @@ ghost use mathlib.Core.Bool.{true};
 ghost use Prim.Native.Nat.{_-_, _≤_, _<_};
 ghost use lib.ListN.{length, set};
 ghost use Rattle.numbers.specs.Lists.{upFrom};
-ghost use Rattle.grammar.specs.Table.{P, grammarOf};
+ghost use Rattle.grammar.specs.Table.{P};
 ghost use Rattle.grammar.specs.Refusal.{refusal};
 ghost use Rattle.rules.specs.Passes as stated;
 ghost use Rattle.rules.specs.Test.{systemIn};

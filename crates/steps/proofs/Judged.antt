@@ -1,46 +1,17 @@
 -- The verdict by its tests, and what a verdict says of them. Assumes nothing.
-use mathlib.Core.Path.{_≡_, refl, ap}
+use mathlib.Core.Path.{_≡_, refl}
 use mathlib.Core.Bool.{Bool, true, false, false≢true}
 use mathlib.Core.List.{List}
-use Prim.Native.Nat.{ℕ, suc, _-_, _≤_, _<_}
+use Prim.Native.Nat.{ℕ, _≤_, _<_}
 use native.Mathlib.Omega.{arith}
 use lib.Dec.{eqb}
-use lib.ListN.{getD}
-use borrow.Author.Tests.{eqb-false, eq-eqb, ne-eqb}
-use Rattle.numbers.specs.Lists.{both}
+use borrow.Author.Tests.{eqb-false}
 use Rattle.graph.specs.Rows.{hasCircle, rootGraph}
 use Rattle.steps.specs.declared.Run.{Run}
 use Rattle.steps.specs.declared.Task.{Task}
 use Rattle.steps.specs.declared.Verdict.{Verdict}
 use Rattle.steps.specs.declared.Verdict.the-variants.{Steps, Circle, Known, Full, New}
 use Rattle.steps.specs.Step.{closedOver, graphsOf, seenIn, verdict, judged}
-
--- ---- the search, from the last entry down
-
--- a count that was just taken down by one
-pub down : (f : ℕ → Bool) (k : ℕ) → 0 < k → f k ≡ f (suc (k - 1))
-down f k h =
-    let q : k ≡ suc (k - 1) = omega arith in
-    ap f q
-
-module _ (symbols graphs : List ℕ) (y g : ℕ) where
-  pub seen-none : seenIn symbols graphs y g 0 ≡ false
-  unfolding seenIn
-  seen-none = refl
-
-  pub seen-hit : (n : ℕ) → getD symbols n 0 ≡ y → getD graphs n 0 ≡ g → seenIn symbols graphs y g (suc n) ≡ true
-  unfolding seenIn both
-  seen-hit n h i = simp (eq-eqb _ _ h, eq-eqb _ _ i)
-
-  pub seen-other-symbol : (n : ℕ) → (getD symbols n 0 ≡ y → ⊥) → seenIn symbols graphs y g (suc n) ≡ seenIn symbols graphs y g n
-  unfolding seenIn both
-  seen-other-symbol n h = simp (ne-eqb _ _ h)
-
-  pub seen-other-graph : (n : ℕ) → getD symbols n 0 ≡ y → (getD graphs n 0 ≡ g → ⊥) → seenIn symbols graphs y g (suc n) ≡ seenIn symbols graphs y g n
-  unfolding seenIn both
-  seen-other-graph n h i = simp (eq-eqb _ _ h, ne-eqb _ _ i)
-
--- ---- the verdict
 
 -- from the answers of the four tests
 pub judged-by : (k : Task) (rows symbols graphs : List ℕ) (r : Run) (picked : List ℕ) (steps circle known full : Bool) (graph : ℕ)

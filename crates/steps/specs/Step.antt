@@ -1,11 +1,11 @@
 -- The six steps for one combination over the slices, where the closures that are left are counted down. Assumes nothing.
-use mathlib.Core.Bool.{Bool, true, false, _||_, cond}
+use mathlib.Core.Bool.{Bool, true, false, cond}
 use mathlib.Core.List.{List, map}
 use mathlib.Core.Path.{_≡_}
-use Prim.Native.Nat.{ℕ, zero, suc, _+_, _-_, _*_, _≤_, _<_}
+use Prim.Native.Nat.{ℕ, suc, _+_, _-_, _*_, _≤_, _<_}
 use lib.Dec.{leb, ltb, eqb}
 use lib.ListN.{length, getD, take}
-use Rattle.numbers.specs.Lists.{both}
+use Rattle.numbers.specs.Lists.{both, eachBelow, someBelow}
 use Rattle.grammar.specs.Table.{attributes}
 use Rattle.graph.specs.Rows.{placedFrom, closure, hasCircle, rootGraph}
 use Rattle.rules.specs.declared.Answer.{Answer}
@@ -40,10 +40,8 @@ abbrev pub PickedIn : List ℕ → Task → List ℕ → Type 0
 PickedIn graphs k picked = (k .count ≤ 7) × ((i : ℕ) → i < k .count → getD picked i 0 < length graphs)
 
 -- the symbol with the graph is among the first n entries
-unfoldable pub seenIn : List ℕ → List ℕ → ℕ → ℕ → ℕ → Bool
-seenIn symbols graphs y g zero = false
-seenIn symbols graphs y g (suc n) =
-    both (eqb (getD symbols n 0) y) (eqb (getD graphs n 0) g) || seenIn symbols graphs y g n
+abbrev pub seenIn : List ℕ → List ℕ → ℕ → ℕ → ℕ → Bool
+seenIn symbols graphs y g n = someBelow (λ i. both (eqb (getD symbols i 0) y) (eqb (getD graphs i 0) g)) n
 
 -- what is to be done with a combination, by the four tests of the six steps
 unfoldable pub verdict : Bool → Bool → Bool → Bool → ℕ → Verdict
@@ -79,9 +77,8 @@ slicesAt (New graph) k picked r σ =
 -- ---- what is promised
 
 -- each of the first n picked numbers is of a stored entry
-unfoldable pub allStored : List ℕ → ℕ → ℕ → Bool
-allStored picked stored zero = true
-allStored picked stored (suc n) = both (ltb (getD picked n 0) stored) (allStored picked stored n)
+abbrev pub allStored : List ℕ → ℕ → ℕ → Bool
+allStored picked stored n = eachBelow (λ i. ltb (getD picked i 0) stored) n
 
 -- a combination of at most seven stored entries, in a room that the slices hold
 unfoldable pub fits : ℕ → Task → List ℕ → Run → Bool

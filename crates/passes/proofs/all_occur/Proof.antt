@@ -1,12 +1,11 @@
 -- `passes::all_occur` meets its contract. The invariant: each of the right symbols from k on has an entry. Assumes nothing.
 use mathlib.Core.Path.{_≡_, refl, sym, _∙_}
-use Prim.Native.Nat.{_≤_, _-_}
+use Prim.Native.Nat.{_≤_}
 use borrow.Author.Needs.{needs}
 use borrow.Author.Tests.{not-true, not-false}
 use native.Mathlib.Omega.{arith}
-use Rattle.steps.proofs.Judged.{down}
+use Rattle.numbers.proofs.Downward.{each-passes, each-fails, each-done}
 use Rattle.passes.specs.Follow.{allIn}
-use Rattle.passes.proofs.Entries.{all-none, all-more, all-lacks}
 use Rattle.passes.proofs.all_occur.Statement.{statement}
 use Rattle.passes.proofs.all_occur.Tie as tie
 
@@ -33,28 +32,25 @@ occurs-requires c κs = search needs
 
 returns : tie.Need-returns Inv-loop μ-loop
 returns c =
-    let a = c .before .before .before .before .before .before .args in
-    let k = c .before .before .before .loop .k in
-    let d = down (allIn (a .symbols .now) (a .task .rights) (a .task .first)) k (c .before .before .loop-test .taken) in
-    let l = all-lacks (a .symbols .now) (a .task .rights) (a .task .first) (k - 1) (sym (c .before .occurs .ensures) ∙ not-true _ (c .if1 .taken)) in
-    cc
+    let l = c .before .before .before in
+    sym (each-fails _ (l .loop .k) (c .before .before .loop-test .taken) (sym (c .before .occurs .ensures) ∙ not-true _ (c .if1 .taken)))
+    ∙ l .loop .inv .1
 
 loop-less : tie.Need-loop-less Inv-loop μ-loop
 loop-less c = search needs
 
 loop-again : tie.Need-loop-again Inv-loop μ-loop
 loop-again c =
-    let a = c .before .before .before .before .before .before .args in
-    let k = c .before .before .before .loop .k in
-    let d = down (allIn (a .symbols .now) (a .task .rights) (a .task .first)) k (c .before .before .loop-test .taken) in
-    let l = all-more (a .symbols .now) (a .task .rights) (a .task .first) (k - 1) (sym (c .before .occurs .ensures) ∙ not-false _ (c .if1 .left)) in
-    (search needs, (cc))
+    let l = c .before .before .before in (
+      search needs,
+      each-passes _ (l .loop .k) (c .before .before .loop-test .taken) (sym (c .before .occurs .ensures) ∙ not-false _ (c .if1 .left))
+          ∙ l .loop .inv .1,
+    )
 
 returns-2 : tie.Need-returns-2 Inv-loop μ-loop
 returns-2 c =
-    let a = c .before .before .before .before .args in
-    let z : c .before .loop .k ≡ 0 = omega arith in
-    cc (z, all-none (a .symbols .now) (a .task .rights) (a .task .first))
+    let l = c .before in
+    sym (each-done _ (l .loop .k) (omega arith)) ∙ l .loop .inv .1
 
 pub all-occur-spec : {M : Type 1} → statement M
 all-occur-spec =

@@ -1,11 +1,13 @@
 -- `passes::occurs` meets its contract. The invariant: the entries from k on do not have the symbol. Assumes nothing.
-use mathlib.Core.Path.{_≡_, refl}
-use Prim.Native.Nat.{_≤_, _-_}
+use mathlib.Core.Path.{_≡_, refl, sym, _∙_}
+use Prim.Native.Nat.{ℕ, _≤_, _-_}
 use borrow.Author.Needs.{needs}
 use native.Mathlib.Omega.{arith}
-use Rattle.steps.proofs.Judged.{down}
+use lib.Dec.{eqb}
+use lib.ListN.{getD}
+use Rattle.numbers.proofs.Decides.{Decides, not-so, eq-decides}
+use Rattle.numbers.proofs.Downward.{some-passes, some-fails, some-done}
 use Rattle.passes.specs.Follow.{occursIn}
-use Rattle.passes.proofs.Entries.{occurs-hit, occurs-other, occurs-none}
 use Rattle.passes.proofs.occurs.Statement.{statement}
 use Rattle.passes.proofs.occurs.Tie as tie
 
@@ -27,28 +29,31 @@ mul-if1 c = search needs
 shared-slice-read-if1 : tie.Need-shared-slice-read-if1 Inv-loop μ-loop
 shared-slice-read-if1 c = search needs
 
+-- the entry that is looked at
+module _ (c : tie.At-loop Inv-loop μ-loop) where
+  abbrev here : ℕ
+  here = getD (c .before .args .symbols .now) (c .loop .k - 1) 0
+
+  is-it : Decides (eqb here (c .before .args .symbol)) (here ≡ c .before .args .symbol)
+  is-it = eq-decides here (c .before .args .symbol)
+
 returns : tie.Need-returns Inv-loop μ-loop
 returns c =
-    let a = c .before .before .before .before .args in
-    let k = c .before .before .before .loop .k in
-    cc (down (occursIn (a .symbols .now) (a .symbol)) k (c .before .before .loop-test .taken), occurs-hit (a .symbols .now) (a .symbol) (k - 1) (c .if1 .taken))
+    let l = c .before .before .before in
+    sym (some-passes _ (l .loop .k) (c .before .before .loop-test .taken) (is-it l .passes (c .if1 .taken))) ∙ l .loop .inv .1
 
 loop-less : tie.Need-loop-less Inv-loop μ-loop
 loop-less c = search needs
 
 loop-again : tie.Need-loop-again Inv-loop μ-loop
 loop-again c =
-    let a = c .before .before .before .before .args in
-    let k = c .before .before .before .loop .k in (
-      search needs,
-      cc (down (occursIn (a .symbols .now) (a .symbol)) k (c .before .before .loop-test .taken), occurs-other (a .symbols .now) (a .symbol) (k - 1) (c .if1 .left)),
-    )
+    let l = c .before .before .before in
+    (search needs, some-fails _ (l .loop .k) (c .before .before .loop-test .taken) (not-so (is-it l) (c .if1 .left)) ∙ l .loop .inv .1)
 
 returns-2 : tie.Need-returns-2 Inv-loop μ-loop
 returns-2 c =
-    let a = c .before .before .args in
-    let z : c .before .loop .k ≡ 0 = omega arith in
-    cc (z, occurs-none (a .symbols .now) (a .symbol))
+    let l = c .before in
+    sym (some-done _ (l .loop .k) (omega arith)) ∙ l .loop .inv .1
 
 pub occurs-spec : {M : Type 1} → statement M
 occurs-spec =

@@ -1,11 +1,13 @@
 -- `steps::all_stored` meets its contract. The invariant: the numbers from k on are of stored entries. Assumes nothing.
-use mathlib.Core.Path.{_≡_, refl}
-use Prim.Native.Nat.{_≤_, _-_}
+use mathlib.Core.Path.{_≡_, refl, sym, _∙_}
+use Prim.Native.Nat.{ℕ, _-_, _≤_, _<_}
 use borrow.Author.Needs.{needs}
 use native.Mathlib.Omega.{arith}
+use lib.Dec.{ltb}
+use lib.ListN.{getD}
+use Rattle.numbers.proofs.Decides.{Decides, not-so, lt-decides}
+use Rattle.numbers.proofs.Downward.{each-passes, each-fails, each-done}
 use Rattle.steps.specs.Step.{allStored}
-use Rattle.steps.proofs.Judged.{down}
-use Rattle.steps.proofs.Fit.{stored-none, stored-more, stored-lacks}
 use Rattle.steps.proofs.all_stored.Statement.{statement}
 use Rattle.steps.proofs.all_stored.Tie as tie
 
@@ -30,30 +32,35 @@ array-read-wide c = search needs
 wide-requires : tie.Need-wide-requires Inv-loop μ-loop
 wide-requires c κs = search needs
 
+-- the number that is looked at
+module _ (c : tie.At-loop Inv-loop μ-loop) where
+  abbrev kid : ℕ
+  kid = getD (c .before .args .t1) (c .loop .k - 1) 0
+
+  is-stored : Decides (ltb kid (c .before .args .stored)) (kid < c .before .args .stored)
+  is-stored = lt-decides kid (c .before .args .stored)
+
 returns : tie.Need-returns Inv-loop μ-loop
 returns c =
-    let a = c .before .before .before .before .args in
-    let k = c .before .before .before .loop .k in
-    let d = down (allStored (a .t1) (a .stored)) k (c .before .before .loop-test .taken) in
-    let l = stored-lacks (a .t1) (a .stored) (k - 1) (omega (arith, c .if1 .taken, c .before .wide .ensures)) in
-    cc
+    let l = c .before .before .before in
+    sym (each-fails _ (l .loop .k) (c .before .before .loop-test .taken) (not-so (is-stored l) (λ h. omega (arith, h, c .if1 .taken, c .before .wide .ensures))))
+    ∙ l .loop .inv .1
 
 loop-less : tie.Need-loop-less Inv-loop μ-loop
 loop-less c = search needs
 
 loop-again : tie.Need-loop-again Inv-loop μ-loop
 loop-again c =
-    let a = c .before .before .before .before .args in
-    let k = c .before .before .before .loop .k in
-    let d = down (allStored (a .t1) (a .stored)) k (c .before .before .loop-test .taken) in
-    let l = stored-more (a .t1) (a .stored) (k - 1) (omega (arith, c .if1 .left, c .before .wide .ensures)) in
-    (search needs, (cc))
+    let l = c .before .before .before in (
+      search needs,
+      each-passes _ (l .loop .k) (c .before .before .loop-test .taken) (is-stored l .passes (omega (arith, c .if1 .left, c .before .wide .ensures)))
+          ∙ l .loop .inv .1,
+    )
 
 returns-2 : tie.Need-returns-2 Inv-loop μ-loop
 returns-2 c =
-    let a = c .before .before .args in
-    let z : c .before .loop .k ≡ 0 = omega arith in
-    cc (z, stored-none (a .t1) (a .stored))
+    let l = c .before in
+    sym (each-done _ (l .loop .k) (omega arith)) ∙ l .loop .inv .1
 
 pub all-stored-spec : {M : Type 1} → statement M
 all-stored-spec =
