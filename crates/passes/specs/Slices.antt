@@ -1,25 +1,16 @@
 -- The test over four parallel lent slices of numbers: what it promises. Assumes nothing.
 use mathlib.Core.List.{List, [], _∷_, _++_, map}
 use mathlib.Core.Path.{_≡_}
-use Prim.Native.Nat.{ℕ, zero, suc, _*_}
-use lib.ListN.{getD, take, drop}
+use Prim.Native.Nat.{ℕ, zero, suc}
 use Rattle.numbers.specs.Lists.{written}
 use Rattle.rules.specs.declared.Report.{Report}
 use Rattle.rules.specs.declared.Entry.{Entry}
 use Rattle.rules.specs.Passes.{Outcome}
 use Rattle.rules.specs.Test.{test}
 pub use Rattle.steps.specs.Slices.{Slices, slices, lent, atEntry, atExit, roomOf}
+unfoldable pub use Rattle.steps.specs.Slices.{entryAt}
 
 -- ---- what a caller reads
-
-unfoldable pub entryAt : Slices → ℕ → Entry
-entryAt σ i =
-    record {
-      symbol = getD (σ .symbols) i 0;
-      graph = getD (σ .graphs) i 0;
-      production = getD (σ .productions) i 0;
-      kids = take 7 (drop (7 * i) (σ .kids));
-    }
 
 -- the first n entries
 unfoldable pub entriesTo : Slices → ℕ → List Entry

@@ -8,7 +8,6 @@ ghost use Rattle.grammar.specs.Table.{P};
 ghost use Rattle.grammar.specs.Refusal.{refusal};
 ghost use Rattle.rules.specs.Passes as stated;
 ghost use Rattle.rules.specs.Test.{systemIn};
-ghost use Rattle.steps.specs.Step.{goesOn};
 ghost use Rattle.passes.specs.Slices.{lent, atEntry, atExit, roomOf, Tells, Tested, entriesTo};
 ghost use Rattle.passes.specs.Follow.{reportOf, Follows, Roomy, InTurn, Picked, systemBy, taskOf, ownOf, combosFrom, occursIn, allIn};
 use grammar::Checked;
@@ -19,7 +18,8 @@ use rules::Report;
 use steps::Run;
 use steps::Task;
 
-fn put(picked: [u16; SLOTS], at: usize, entry: u16) -> [u16; SLOTS]
+// The combination with an entry picked for the right symbol `at`.
+fn picked_with(picked: [u16; SLOTS], at: usize, entry: u16) -> [u16; SLOTS]
     requires { ⌜ at < 7 ⌝ }
     ensures { λ r. ⌜ r ≡ set picked at entry ⌝ }
 {
@@ -61,11 +61,12 @@ fn level(
         if !now.going {
             return now;
         }
+        // Counted on before the test: its two ways then go back to the loop, and are proved, each by itself.
         let here = e;
         let symbol = symbols[e];
         e += 1;
         if symbol == right {
-            let next = put(picked, at, here as u16);
+            let next = picked_with(picked, at, here as u16);
             now = level(
                 symbols,
                 graphs,
@@ -193,14 +194,11 @@ fn pass(
         (atExit symbols graphs productions kids) r ⌝ }
 {
     let mut now = run;
-    let mut number = 0;
-    while number < count {
+    for number in 0..count {
         if !now.going {
             return now;
         }
-        let here = number;
-        number += 1;
-        now = turn(table, here, symbols, graphs, productions, kids, room, now);
+        now = turn(table, number, symbols, graphs, productions, kids, room, now);
     }
     now
 }
@@ -216,19 +214,6 @@ fn ended(answer: Answer, root: [u16; SLOTS], limit: u32, run: Run, begun: u16) -
         entries: run.stored as u16,
         passes: begun,
         root,
-    }
-}
-
-// Nothing is stored yet, and every closure is left.
-fn begins(limit: u32) -> Run
-    ensures { λ r. ⌜ r ≡ goesOn limit 0 ⌝ }
-{
-    Run {
-        going: true,
-        answer: Answer::Noncircular,
-        root: [0u16; SLOTS],
-        left: limit,
-        stored: 0,
     }
 }
 
@@ -248,7 +233,7 @@ fn passes(
         (atEntry symbols graphs productions kids) r
         (atExit symbols graphs productions kids) ⌝ }
 {
-    let mut now = begins(limit);
+    let mut now = steps::going_on(limit, 0);
     let mut begun: u16 = 0;
     loop {
         let before = now.stored;

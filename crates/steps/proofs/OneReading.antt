@@ -10,11 +10,21 @@ use Rattle.steps.specs.Slices.{Slices, slices}
 use Rattle.steps.specs.Step.{Tried}
 use Rattle.steps.proofs.room_of.Kinds as room-of-kinds
 use Rattle.steps.proofs.room_of.Reads as room-of-reads
+use Rattle.steps.proofs.entry_of.Kinds as entry-of-kinds
+use Rattle.steps.proofs.entry_of.Reads as entry-of-reads
+use Rattle.steps.proofs.going_on.Kinds as going-on-kinds
+use Rattle.steps.proofs.going_on.Reads as going-on-reads
 use Rattle.steps.proofs.try_one.Kinds as try-one-kinds
 use Rattle.steps.proofs.try_one.Reads as try-one-reads
 
 pub one-reading-room-of : OneResult 0 room-of-kinds.ps room-of-kinds.r room-of-reads.Post
 one-reading-room-of κs a x y s t p q = p ∙ sym q
+
+pub one-reading-entry-of : OneResult 4 entry-of-kinds.ps entry-of-kinds.r entry-of-reads.Post
+one-reading-entry-of κs a x y s t p q = p ∙ sym q
+
+pub one-reading-going-on : OneResult 0 going-on-kinds.ps going-on-kinds.r going-on-reads.Post
+one-reading-going-on κs a x y s t p q = p ∙ sym q
 
 abbrev Back : Type 0
 Back = Run × Slices

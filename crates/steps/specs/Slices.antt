@@ -1,11 +1,14 @@
 -- Entries in four parallel lent slices of numbers. Assumes nothing.
+use mathlib.Core.Bool.{cond}
 use mathlib.Core.List.{List}
 use Prim.Native.Nat.{ℕ, _*_, _/_, min}
-use lib.ListN.{length, set}
+use lib.Dec.{ltb}
+use lib.ListN.{length, getD, set, take, drop}
 use lib.Seq.{sets}
 use denote.Ref.{RefT, now}
 use denote.Triple.Both.{Both}
 use Rattle.rules.specs.declared.Entry.{Entry}
+use Rattle.rules.specs.Passes.{noEntry}
 
 pub record Slices : Type 0 where
   pub symbols : List ℕ
@@ -38,6 +41,21 @@ roomFor symbols graphs productions kids = min 4096 (min symbols (min graphs (min
 
 abbrev pub roomOf : Slices → ℕ
 roomOf σ = roomFor (length (σ .symbols)) (length (σ .graphs)) (length (σ .productions)) (length (σ .kids))
+
+-- ---- one entry
+
+unfoldable pub entryAt : Slices → ℕ → Entry
+entryAt σ i =
+    record {
+      symbol = getD (σ .symbols) i 0;
+      graph = getD (σ .graphs) i 0;
+      production = getD (σ .productions) i 0;
+      kids = take 7 (drop (7 * i) (σ .kids));
+    }
+
+-- where the slices hold no entry i, one of zeros
+abbrev pub entryIn : Slices → ℕ → Entry
+entryIn σ i = cond (ltb i (roomOf σ)) (entryAt σ i) noEntry
 
 -- with the entry as number n
 abbrev pub put : Slices → ℕ → Entry → Slices

@@ -1,11 +1,12 @@
-// The six steps for one combination, over four parallel lent slices of numbers.
+// Entries in four parallel lent slices of numbers: how many there is room for, what one of them holds, and the six steps for one
+// combination.
 ghost use mathlib.Core.Path.{_≡_};
 ghost use Prim.Native.Nat.{_+_, _≤_};
-ghost use lib.ListN.{length};
+ghost use lib.ListN.{length, take, drop};
 ghost use lib.Seq.{sets};
 ghost use Rattle.grammar.specs.Table.{attributes};
 ghost use Rattle.graph.specs.Rows.{placedFrom, hasCircle, rootGraph};
-ghost use Rattle.steps.specs.Slices.{roomFor, atEntry, atExit};
+ghost use Rattle.steps.specs.Slices.{roomFor, entryIn, atEntry, atExit};
 ghost use Rattle.steps.specs.Step.{
   goesOn,
   stops,
@@ -21,6 +22,7 @@ ghost use Rattle.steps.specs.Step.{
 use grammar::NODES;
 use grammar::SLOTS;
 use rules::Answer;
+use rules::Entry;
 use rules::MOST_ENTRIES;
 
 // Where the passes stand: the closures that are left and how many entries are stored. While the passes go on, `answer` and `root`
@@ -70,6 +72,45 @@ pub fn room_of(symbols: usize, graphs: usize, productions: usize, kids: usize) -
             numbers::smaller(graphs, numbers::smaller(productions, kids / SLOTS)),
         ),
     )
+}
+
+// The seven slots from `at` on.
+fn slots_at(kids: &[u16], at: usize) -> [u16; SLOTS]
+    requires { ⌜ at + 7 ≤ length (now kids) ⌝ }
+    ensures { λ r. ⌜ r ≡ take 7 (drop at (now (kids .entry))) ⌝ }
+{
+    let mut slots = [0u16; SLOTS];
+    for k in 0..SLOTS {
+        slots[k] = kids[at + k];
+    }
+    slots
+}
+
+// The entry of a number; where the slices hold none, one of zeros.
+pub fn entry_of(
+    symbols: &[u16],
+    graphs: &[u64],
+    productions: &[u16],
+    kids: &[u16],
+    i: usize,
+) -> Entry
+    ensures { λ r. ⌜ r ≡ entryIn (atEntry symbols graphs productions kids) i ⌝ }
+{
+    let room = room_of(symbols.len(), graphs.len(), productions.len(), kids.len());
+    if room <= i {
+        return Entry {
+            symbol: 0,
+            graph: 0,
+            production: 0,
+            kids: [0u16; SLOTS],
+        };
+    }
+    Entry {
+        symbol: symbols[i],
+        graph: graphs[i],
+        production: productions[i],
+        kids: slots_at(kids, SLOTS * i),
+    }
 }
 
 // The rows of the compound graph: to the production's own, each picked entry's pairs at its occurrence.
@@ -190,7 +231,8 @@ fn put_row(kids: &mut [u16], at: usize, picked: [u16; SLOTS])
     }
 }
 
-fn going_on(left: u32, stored: usize) -> Run
+// A run that goes on, with so many closures left and so many entries stored.
+pub fn going_on(left: u32, stored: usize) -> Run
     ensures { λ r. ⌜ r ≡ goesOn left stored ⌝ }
 {
     Run {

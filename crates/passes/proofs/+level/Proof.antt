@@ -16,7 +16,7 @@ use borrow.Fn.PlainCycle.{Measures, is, falls, and}
 use Rattle.passes.proofs.level.Reads as level
 use Rattle.passes.proofs.level.Kinds as level-kinds
 use Rattle.passes.proofs.+level.Lts-level as level-lts
-use Rattle.passes.proofs.put.Reads as put-reads
+use Rattle.passes.proofs.picked_with.Reads as picked-with-reads
 use Rattle.steps.proofs.try_one.Reads as try-one-reads
 use Rattle.passes.proofs.+level.{statement}
 use Rattle.passes.proofs.+level.Tie.{close}
@@ -32,7 +32,7 @@ level-below t = and 5 level-kinds.ps (falls 5 level-kinds.ps _<_ μ-level t) lev
 
 -- what the callees ask and ensure
 abbrev K : ℕ → level-lts.Claims
-K t = (try-one-reads.Asked, try-one-reads.Learnt, put-reads.Asked, put-reads.Learnt, level-below t, level.Post)
+K t = (try-one-reads.Asked, try-one-reads.Learnt, picked-with-reads.Asked, picked-with-reads.Learnt, level-below t, level.Post)
 
 abbrev level-Inv-loop : level-lts.InvT-loop
 level-Inv-loop symbols₀ graphs₀ productions₀ kids₀ own task left picked count at right first now₀ e₀ symbols graphs productions kids now e =
@@ -154,13 +154,13 @@ level-add-e t c =
     let l = c .before .before .before .before in
     omega (arith, c .before .before .before .loop-test .taken, ready t l .first, ready t l .roomy .stored, ready t l .roomy .small)
 
-level-cast-put : (t : ℕ) → level-lts.Need-cast-put (K t) (level-at t) level.Post level-Inv-loop level-μ-loop
-level-cast-put t c =
+level-cast-picked-with : (t : ℕ) → level-lts.Need-cast-picked-with (K t) (level-at t) level.Post level-Inv-loop level-μ-loop
+level-cast-picked-with t c =
     let l = c .before .before .before .before .before in
     omega (arith, c .before .before .before .before .loop-test .taken, ready t l .first, ready t l .roomy .stored, ready t l .roomy .small)
 
-level-put-requires : (t : ℕ) → level-lts.Need-put-requires (K t) (level-at t) level.Post level-Inv-loop level-μ-loop
-level-put-requires t c κs = search needs
+level-picked-with-requires : (t : ℕ) → level-lts.Need-picked-with-requires (K t) (level-at t) level.Post level-Inv-loop level-μ-loop
+level-picked-with-requires t c κs = search needs
 
 level-sub-level : (t : ℕ) → level-lts.Need-sub-level (K t) (level-at t) level.Post level-Inv-loop level-μ-loop
 level-sub-level t c = search needs
@@ -169,7 +169,7 @@ level-level-requires : (t : ℕ) → level-lts.Need-level-requires (K t) (level-
 level-level-requires t c κs =
     let l = c .before .before .before .before .before .before .before .before .before .before in
     let k = start t l .args .task in
-    let next = c .before .before .before .before .put in (
+    let next = c .before .before .before .before .picked-with in (
       omega (arith, lower t l, start t l .pre .0),
       (
         omega (arith, lower t l),
@@ -187,7 +187,7 @@ level-loop-again : (t : ℕ) → level-lts.Need-loop-again (K t) (level-at t) le
 level-loop-again t c =
     let l = c .before .before .before .before .before .before .before .before .before .before .before .before .before .before .before .before .before .before .before in (
       omega (arith, c .before .before .before .before .before .before .before .before .before .before .before .before .before .before .before .before .before .before .loop-test .taken),
-      level-hit (start t l .args .task) (start t l .args .own .now) (σ₀ t l) (start t l .args .run) (ready t l) (at t l) (start t l .args .picked) (σ t l) (l .loop .now) (l .loop .e) (l .loop .inv .1) (c .before .before .before .before .before .before .before .before .before .before .before .before .before .before .before .before .before .before .loop-test .taken) (in-picked t l) (c .before .before .before .before .before .before .before .before .before .before .before .before .before .before .if3 .taken) _ (c .before .before .before .before .before .before .before .before .before .before .before .before .before .put .result) _ _ (one-more t l) (c .before .before .before .before .before .before .before .before .before .before .before .before .before .put .ensures) (c .before .before .before .before .before .before .before .before .level .ensures),
+      level-hit (start t l .args .task) (start t l .args .own .now) (σ₀ t l) (start t l .args .run) (ready t l) (at t l) (start t l .args .picked) (σ t l) (l .loop .now) (l .loop .e) (l .loop .inv .1) (c .before .before .before .before .before .before .before .before .before .before .before .before .before .before .before .before .before .before .loop-test .taken) (in-picked t l) (c .before .before .before .before .before .before .before .before .before .before .before .before .before .before .if3 .taken) _ (c .before .before .before .before .before .before .before .before .before .before .before .before .before .picked-with .result) _ _ (one-more t l) (c .before .before .before .before .before .before .before .before .before .before .before .before .before .picked-with .ensures) (c .before .before .before .before .before .before .before .before .level .ensures),
     )
 
 level-loop-less-2 : (t : ℕ) → level-lts.Need-loop-less-2 (K t) (level-at t) level.Post level-Inv-loop level-μ-loop
@@ -243,8 +243,8 @@ pub +level-spec : {M : Type 1} → statement M
     (level-mul-symbol t)
     (level-slice-read-symbol t)
     (level-add-e t)
-    (level-cast-put t)
-    (level-put-requires t)
+    (level-cast-picked-with t)
+    (level-picked-with-requires t)
     (level-sub-level t)
     (level-level-requires t)
     (level-loop-less t)

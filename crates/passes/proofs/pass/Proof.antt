@@ -67,15 +67,15 @@ returns c =
     let l = c .before .before .before in
     pass-stop (W l) (start l .args .room) (σ₀ l) (start l .args .run) (σ l) (l .loop .now) (l .loop .number) (l .loop .inv .1) (start l .args .count) (l .loop .inv .0) (not-true _ (c .if1 .taken))
 
-add-number : tie.Need-add-number Inv-loop μ-loop
-add-number c =
-    let l = c .before .before .before in
-    omega (arith, c .before .before .loop-test .taken, start l .pre .1, few-productions (start l .args .table .now) (start l .pre .0))
-
 turn-requires : tie.Need-turn-requires Inv-loop μ-loop
 turn-requires c κs =
     let l = c .before .before .before .before .before .before .before in
     (start l .pre .0, omega (arith, c .before .before .before .before .before .before .loop-test .taken, start l .pre .1), roomy l, not-false _ (c .before .before .before .before .if1 .left))
+
+add-number : tie.Need-add-number Inv-loop μ-loop
+add-number c =
+    let l = c .before .before .before .before .before .before .before .before .before .before .before .before .before .before .before .before in
+    omega (arith, c .before .before .before .before .before .before .before .before .before .before .before .before .before .before .before .loop-test .taken, start l .pre .1, few-productions (start l .args .table .now) (start l .pre .0))
 
 loop-less : tie.Need-loop-less Inv-loop μ-loop
 loop-less c = omega (arith, c .before .before .before .before .before .before .before .before .before .before .before .before .before .before .before .loop-test .taken)
@@ -115,8 +115,8 @@ pass-spec =
     same-length-3
     same-length-4
     returns
-    add-number
     turn-requires
+    add-number
     loop-less
     loop-again
     same-length-5

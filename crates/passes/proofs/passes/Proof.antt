@@ -46,10 +46,10 @@ module _ (c : tie.At-loop Inv-loop μ-loop) where
   σ = slices (c .loop .symbols) (c .loop .graphs) (c .loop .productions) (c .loop .kids)
 
   abbrev r₀ : Run
-  r₀ = c .before .begins .result
+  r₀ = c .before .going-on .result
 
   begins : r₀ ≡ goesOn (start .args .limit) 0
-  begins = c .before .begins .ensures
+  begins = c .before .going-on .ensures
 
   roomy : Roomy (start .args .room) σ (c .loop .now)
   roomy =
@@ -80,14 +80,14 @@ module _ (c : tie.After-pass Inv-loop μ-loop) where
   roomy-then : Roomy (start l .args .room) τ q
   roomy-then = kept-roomy (start l .args .room) (σ l) (l .loop .now) τ q (followed .kept) (roomy l)
 
-begins-requires : tie.Need-begins-requires Inv-loop μ-loop
-begins-requires c κs = search needs
+going-on-requires : tie.Need-going-on-requires Inv-loop μ-loop
+going-on-requires c κs = search needs
 
 loop-holds : tie.Need-loop-holds Inv-loop μ-loop
 loop-holds c =
     let s = c .before .before .before .before .before .before in
-    let b = c .begins .ensures in
-    reached-start (systemIn (s .args .table .now)) (s .args .limit) (s .args .room) (upFrom 0 (s .args .count)) _ (c .begins .result)
+    let b = c .going-on .ensures in
+    reached-start (systemIn (s .args .table .now)) (s .args .limit) (s .args .room) (upFrom 0 (s .args .count)) _ (c .going-on .result)
     (ap (λ (x : Run). x .left) b) (ap (λ (x : Run). x .stored) b) (ap (λ (x : Run). x .going) b)
 
 add-begun : tie.Need-add-begun Inv-loop μ-loop
@@ -160,7 +160,7 @@ passes-spec =
     (tie.spec
     Inv-loop
     μ-loop
-    begins-requires
+    going-on-requires
     loop-holds
     add-begun
     pass-requires
