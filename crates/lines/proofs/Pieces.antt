@@ -4,6 +4,7 @@ use mathlib.Core.List.{List, [], _++_, append-nil, append-assoc}
 use Prim.Native.Nat.{ℕ, _+_, _≤_}
 use native.Mathlib.Omega.{arith}
 use Rattle.lines.specs.declared.Line.{Line}
+use Rattle.lines.specs.Buffer.{lineBytes}
 use Rattle.lines.specs.Pieces.{text, PieceAfter, LineIs}
 
 pub nothing : (a : Line) → PieceAfter [] 0 a a
@@ -22,6 +23,6 @@ pub within : {p q : List ℕ} {m n : ℕ} {a b : Line} → p ≡ q → m ≤ n �
 within {a = a} e h f = record { text-is = f .text-is ∙ ap (λ (t : List ℕ). text a ++ t) e; len-is = omega arith }
 
 -- a line that was begun with nothing
-pub whole : {p : List ℕ} {m : ℕ} {a b : Line} → (text a ≡ []) × (a .len ≡ 0) → m ≤ 128 → PieceAfter p m a b → LineIs p b
+pub whole : {p : List ℕ} {m : ℕ} {a b : Line} → (text a ≡ []) × (a .len ≡ 0) → m ≤ lineBytes → PieceAfter p m a b → LineIs p b
 whole {p = p} e h f =
     record { text-is = f .text-is ∙ ap (λ (t : List ℕ). t ++ p) (e .0); len-is = let z = e .1 in omega arith }

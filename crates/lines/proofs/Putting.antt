@@ -1,4 +1,4 @@
--- A line putLine into a buffer, by whether it lineFits. Assumes nothing.
+-- A line put into a buffer, by whether it fits. Assumes nothing.
 use mathlib.Core.Path.{_≡_, refl, _∙_}
 use mathlib.Core.Bool.{Bool, true, false}
 use mathlib.Core.List.{List, _++_, append-assoc}
@@ -43,7 +43,7 @@ module _ (line : List ℕ) (at : ℕ) (old : List ℕ) where
 pub of-line : {l : List ℕ} {r : Line} {at : ℕ} {old new : List ℕ} {n : ℕ} → LineIs l r → Written (text r) at old new n → Written l at old new n
 of-line h p = rw (h .text-is) at p
 
--- what is putLine right after a first part of n elements
+-- what is put right after a first part of n elements
 spliced :
     (xs old k : List ℕ) (n : ℕ) →
     length xs ≡ n →
@@ -52,7 +52,7 @@ spliced xs old k n e =
     let past : drop (n + length k) (xs ++ drop n old) ≡ drop (length k) (drop n old) = rw (← e) (drop-append-add xs (drop (length xs) old) (length k)) in
     simp (take-at xs (drop n old) n e, past, drop-drop)
 
--- a line after a line is their text in one, where it lineFits
+-- a line after a line is their text in one, where it fits
 module _ (l k : List ℕ) (at : ℕ) (old : List ℕ) (h : at + length (l ++ k) ≤ length old) where
   size : length (l ++ k) ≡ length l + length k
   size = length-append l k

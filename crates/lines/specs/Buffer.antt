@@ -6,14 +6,18 @@ use Prim.Native.Nat.{ℕ, _+_}
 use lib.Dec.{leb}
 use lib.ListN.{length, take, drop}
 
+-- no line has more
+abbrev pub lineBytes : ℕ
+lineBytes = 128
+
 abbrev pub lineFits : List ℕ → ℕ → List ℕ → Bool
 lineFits line at old = leb (at + length line) (length old)
 
--- the buffer with the line from `at` on where it lineFits, else as before
+-- the buffer with the line from `at` on where it fits, else as before
 unfoldable pub putLine : List ℕ → ℕ → List ℕ → List ℕ
 putLine line at old = cond (lineFits line at old) (take at old ++ line ++ drop (at + length line) old) old
 
--- the place after the line where it lineFits, else `at`
+-- the place after the line where it fits, else `at`
 unfoldable pub next : List ℕ → ℕ → List ℕ → ℕ
 next line at old = cond (lineFits line at old) (at + length line) at
 

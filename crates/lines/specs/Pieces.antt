@@ -4,6 +4,7 @@ use mathlib.Core.List.{List, _++_}
 use Prim.Native.Nat.{ℕ, _+_, _≤_}
 use lib.ListN.{take}
 use Rattle.lines.specs.declared.Line.{Line}
+use Rattle.lines.specs.Buffer.{lineBytes}
 
 abbrev pub text : Line → List ℕ
 text line = take (line .len) (line .bytes)
@@ -16,4 +17,4 @@ pub record PieceAfter (piece : List ℕ) (most : ℕ) (line r : Line) : Type 0 w
 -- `r` is a whole line
 pub record LineIs (line : List ℕ) (r : Line) : Type 0 where
   pub text-is : text r ≡ line
-  pub len-is : r .len ≤ 128
+  pub len-is : r .len ≤ lineBytes

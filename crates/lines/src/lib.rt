@@ -1,17 +1,21 @@
 // The lines that `circ` prints, each put whole into a buffer that the caller lends, or not at all.
 ghost use mathlib.Core.Path.{_≡_};
 ghost use mathlib.Core.List.{_++_, []};
-ghost use Prim.Native.Nat.{_+_, _≤_, min};
+ghost use Prim.Native.Nat.{_+_, _≤_};
 ghost use lib.ListN.{length, take, drop};
 ghost use Rattle.texts.specs.Lines.{newline, decimal, places, tagged, counts, answered, firstLine, kidsText, entryLine, rootLine};
-ghost use Rattle.lines.specs.Buffer.{Written};
+ghost use Rattle.lines.specs.Buffer.{lineBytes, Written};
 ghost use Rattle.lines.specs.Pieces.{text, PieceAfter, LineIs};
+use grammar::SLOTS;
 use rules::Answer;
 use rules::Report;
 
-// A line in the making: its text is the first `len` bytes. No line has more than 128, so each is made here before it is put.
+// No line has more.
+pub const LINE_BYTES: usize = 128;
+
+// A line in the making: its text is the first `len` bytes. Each is made here, whole, before it is put.
 struct Line {
-    bytes: [u8; 128],
+    bytes: [u8; LINE_BYTES],
     len: usize,
 }
 
@@ -31,7 +35,7 @@ pub fn put_entry(
     number: u16,
     symbol: u16,
     production: u16,
-    kids: [u16; 7],
+    kids: [u16; SLOTS],
     n: usize,
     graph: u64,
 ) -> usize
@@ -41,7 +45,7 @@ pub fn put_entry(
     put_line(buf, at, line)
 }
 
-pub fn put_root(buf: &mut [u8], at: usize, production: u16, root: [u16; 7], n: usize) -> usize
+pub fn put_root(buf: &mut [u8], at: usize, production: u16, root: [u16; SLOTS], n: usize) -> usize
     ensures { λ r. ⌜ Written (rootLine production (take n root)) at (now (buf .entry)) (now (buf .exit)) r ⌝ }
 {
     let line = root_line(production, root, n);
@@ -82,7 +86,7 @@ fn entry_line(
     number: u16,
     symbol: u16,
     production: u16,
-    kids: [u16; 7],
+    kids: [u16; SLOTS],
     n: usize,
     graph: u64,
 ) -> Line
@@ -96,7 +100,7 @@ fn entry_line(
     with_word(to_graph, b"\n")
 }
 
-fn root_line(production: u16, root: [u16; 7], n: usize) -> Line
+fn root_line(production: u16, root: [u16; SLOTS], n: usize) -> Line
     ensures { λ r. ⌜ LineIs (rootLine production (take n root)) r ⌝ }
 {
     let to_production = with_short(empty(), b"root production ", production);
@@ -104,11 +108,11 @@ fn root_line(production: u16, root: [u16; 7], n: usize) -> Line
     with_word(to_kids, b"\n")
 }
 
-fn with_kids(line: Line, kids: [u16; 7], n: usize) -> Line
-    requires { ⌜ line .len + 47 ≤ 128 ⌝ }
+fn with_kids(line: Line, kids: [u16; SLOTS], n: usize) -> Line
+    requires { ⌜ line .len + 47 ≤ lineBytes ⌝ }
     ensures { λ r. ⌜ PieceAfter (kidsText (take n kids)) 47 line r ⌝ }
 {
-    let count = slots(n);
+    let count = numbers::smaller(n, SLOTS);
     let mut to_kid = with_word(line, b" kids");
     for i in 0..count {
         let more = with_kid(to_kid, kids[i]);
@@ -117,15 +121,9 @@ fn with_kids(line: Line, kids: [u16; 7], n: usize) -> Line
     to_kid
 }
 
-// How many of the seven slots are kids.
-fn slots(n: usize) -> usize
-    ensures { λ r. ⌜ r ≡ min n 7 ⌝ }
-{
-    if n < 7 { n } else { 7 }
-}
-
+// A function by itself, so that a kid is known to have 16 bits.
 fn with_kid(line: Line, kid: u16) -> Line
-    requires { ⌜ line .len + 6 ≤ 128 ⌝ }
+    requires { ⌜ line .len + 6 ≤ lineBytes ⌝ }
     ensures { λ r. ⌜ PieceAfter (tagged " " kid) 6 line r ⌝ }
 {
     with_short(line, b" ", kid)
@@ -133,21 +131,21 @@ fn with_kid(line: Line, kid: u16) -> Line
 
 // A number below 65,536 has at most five digits.
 fn with_short(line: Line, tag: &[u8], n: u16) -> Line
-    requires { ⌜ line .len + (length (now tag) + 5) ≤ 128 ⌝ }
+    requires { ⌜ line .len + (length (now tag) + 5) ≤ lineBytes ⌝ }
     ensures { λ r. ⌜ PieceAfter (now (tag .entry) ++ decimal n) (length (now (tag .entry)) + 5) line r ⌝ }
 {
     with_places(line, tag, n as u64)
 }
 
 fn with_number(line: Line, tag: &[u8], n: u64) -> Line
-    requires { ⌜ line .len + (length (now tag) + 20) ≤ 128 ⌝ }
+    requires { ⌜ line .len + (length (now tag) + 20) ≤ lineBytes ⌝ }
     ensures { λ r. ⌜ PieceAfter (now (tag .entry) ++ decimal n) (length (now (tag .entry)) + 20) line r ⌝ }
 {
     with_places(line, tag, n)
 }
 
 fn with_places(line: Line, tag: &[u8], n: u64) -> Line
-    requires { ⌜ line .len + (length (now tag) + places n) ≤ 128 ⌝ }
+    requires { ⌜ line .len + (length (now tag) + places n) ≤ lineBytes ⌝ }
     ensures { λ r. ⌜ PieceAfter (now (tag .entry) ++ decimal n) (length (now (tag .entry)) + places n) line r ⌝ }
 {
     let mut digits = [0u8; 20];
@@ -156,7 +154,7 @@ fn with_places(line: Line, tag: &[u8], n: u64) -> Line
 }
 
 fn with_word(line: Line, word: &[u8]) -> Line
-    requires { ⌜ line .len + length (now word) ≤ 128 ⌝ }
+    requires { ⌜ line .len + length (now word) ≤ lineBytes ⌝ }
     ensures { λ r. ⌜ PieceAfter (now (word .entry)) (length (now (word .entry))) line r ⌝ }
 {
     let at = line.len;
@@ -172,13 +170,13 @@ fn empty() -> Line
     ensures { λ r. ⌜ (text r ≡ []) × (r .len ≡ 0) ⌝ }
 {
     Line {
-        bytes: [0; 128],
+        bytes: [0; LINE_BYTES],
         len: 0,
     }
 }
 
 fn put_line(buf: &mut [u8], at: usize, line: Line) -> usize
-    requires { ⌜ line .len ≤ 128 ⌝ }
+    requires { ⌜ line .len ≤ lineBytes ⌝ }
     ensures { λ r. ⌜ Written (text line) at (now (buf .entry)) (now (buf .exit)) r ⌝ }
 {
     let len = line.len;

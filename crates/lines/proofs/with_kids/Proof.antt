@@ -18,8 +18,8 @@ Inv-loop n kids count to-kid₀ i₀ to-kid i = (i ≤ count) × PieceAfter (spa
 abbrev μ-loop : tie.MeasureT-loop
 μ-loop n kids count to-kid₀ i₀ to-kid i = count - i
 
-slots-requires : tie.Need-slots-requires Inv-loop μ-loop
-slots-requires c κs = search needs
+smaller-requires : tie.Need-smaller-requires Inv-loop μ-loop
+smaller-requires c κs = search needs
 
 slice-aggregate-with-word : tie.Need-slice-aggregate-with-word Inv-loop μ-loop
 slice-aggregate-with-word c = search needs
@@ -71,7 +71,7 @@ with-kids-spec =
     (tie.spec
     Inv-loop
     μ-loop
-    slots-requires
+    smaller-requires
     slice-aggregate-with-word
     with-word-requires
     loop-holds
