@@ -2,7 +2,7 @@
 use mathlib.Core.Path.{_≡_, refl, _∙_, subst}
 use mathlib.Core.Bool.{Bool, true, false}
 use mathlib.Core.List.{List, [], _∷_, _++_, append-nil, append-assoc}
-use Prim.Native.Nat.{ℕ, suc, _+_, _*_, _≤_}
+use Prim.Native.Nat.{ℕ, suc, _+_, _≤_}
 use native.Mathlib.Nat.{add-zero, zero-add}
 use native.Mathlib.Numerals.{add-one}
 use native.Mathlib.Omega.{arith}
@@ -16,7 +16,7 @@ use Rattle.lines.specs.Buffer.{Written}
 use Rattle.lines.proofs.Putting.{fitting, fitted, lines}
 use Rattle.passes.specs.Slices.{Slices, roomOf, entryAt, entriesTo}
 use Rattle.passes.proofs.Entries.{length-entries}
-use Rattle.print.specs.Texts.{entryText, enough, Placed, Printed}
+use Rattle.print.specs.Texts.{entryText, bytesFor, enough, Placed, Printed}
 
 pub nothing : (at : ℕ) (old : List ℕ) → at ≤ length old → Placed [] 0 at old old at
 nothing at old h =
@@ -49,7 +49,7 @@ placed-length {text} {m} {at} {old} {new} {r} h p =
 -- ---- the whole text
 
 pub roomy : (report : Report) (σ : Slices) (old : List ℕ) → enough report σ old ≡ true
-    → (report .entries ≤ roomOf σ) × (128 * (report .entries + 2) ≤ length old)
+    → (report .entries ≤ roomOf σ) × (bytesFor (report .entries) ≤ length old)
 roomy report σ old h = both-decides (le-decides _ _) (le-decides _ _) .so h
 
 pub not-printed : {text old : List ℕ} {ok : Bool} → ok ≡ false → Printed text ok old old 0

@@ -1,7 +1,7 @@
 -- What the test stores is read off the slices again, so what is printed of them is printed of its outcome. Assumes nothing.
 use mathlib.Core.Path.{_≡_, refl, ap, _∙_}
 use mathlib.Core.List.{List}
-use Prim.Native.Nat.{ℕ, _+_, _*_, _≤_}
+use Prim.Native.Nat.{ℕ, _≤_}
 use native.Mathlib.Omega.{arith}
 use borrow.Author.Tests.{le-leb}
 use lib.Dec.{leb}
@@ -14,7 +14,7 @@ use Rattle.rules.proofs.Stored.{Counted, counted-test}
 use Rattle.texts.specs.Lines.{printed}
 use Rattle.passes.specs.Slices.{Slices, roomOf, Tells, Tested, entriesTo, readOut}
 use Rattle.passes.proofs.Told.{entries-told}
-use Rattle.print.specs.Texts.{kidsIn, enough, Printed, TestPrinted}
+use Rattle.print.specs.Texts.{kidsIn, bytesFor, enough, Printed, TestPrinted}
 
 module _ (o : Outcome) (σ : Slices) (r : Report) (τ : Slices) (good : Counted (roomOf σ) o) (t : Tells o σ r τ) where
   count : r .entries ≡ length (o .entries)
@@ -25,7 +25,7 @@ module _ (o : Outcome) (σ : Slices) (r : Report) (τ : Slices) (good : Counted 
       let same : entriesTo τ (r .entries) ≡ o .entries = rw count (entries-told o σ r τ (good .sound .slots) t) in
       λ j. record { report = t .report j; entries = same j }
 
-  enough-is : (old : List ℕ) → roomOf τ ≡ roomOf σ → enough r τ old ≡ leb (128 * (length (o .entries) + 2)) (length old)
+  enough-is : (old : List ℕ) → roomOf τ ≡ roomOf σ → enough r τ old ≡ leb (bytesFor (length (o .entries))) (length old)
   unfolding both
   enough-is old same = rw (same, count, le-leb (length (o .entries)) (roomOf σ) (good .sound .fits))
 
@@ -45,11 +45,11 @@ test-printed bs limit σ report τ {old} same t p =
       text = rw (read-is o σ report τ good t, enough-is o σ report τ good t old same) at p;
     }
 
--- where the buffer has 128 bytes for each entry of the room and for two more lines, the text is always there
-pub always-printed : (bs : List ℕ) (limit : ℕ) (σ τ : Slices) (old new : List ℕ) (r : ℕ) → 128 * (roomOf σ + 2) ≤ length old
+-- where the buffer has room for as many entries as the slices, the text is always there
+pub always-printed : (bs : List ℕ) (limit : ℕ) (σ τ : Slices) (old new : List ℕ) (r : ℕ) → bytesFor (roomOf σ) ≤ length old
     → TestPrinted bs limit σ τ old new r
     → (new ≡ written (printed (kidsIn bs) (test bs limit (roomOf σ))) old) × (r ≡ length (printed (kidsIn bs) (test bs limit (roomOf σ))))
 always-printed bs limit σ τ old new r h p =
     let few = counted-test bs limit (roomOf σ) .sound .fits in
-    let yes = le-leb (128 * (length (test bs limit (roomOf σ) .entries) + 2)) (length old) (omega arith) in
+    let yes = le-leb (bytesFor (length (test bs limit (roomOf σ) .entries))) (length old) (omega arith) in
     (rw yes at (p .text .buffer), rw yes at (p .text .count))

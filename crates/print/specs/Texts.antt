@@ -8,18 +8,21 @@ use lib.ListN.{length, take}
 use Rattle.numbers.specs.Lists.{both, written}
 use Rattle.rules.specs.declared.Report.{Report}
 use Rattle.rules.specs.declared.Entry.{Entry}
-use Rattle.rules.specs.Passes.{Outcome}
 use Rattle.rules.specs.Test.{test}
 use Rattle.texts.specs.Lines.{entryLine, printed}
 pub use Rattle.texts.specs.Lines.{kidsIn}
-use Rattle.lines.specs.Buffer.{Written}
+use Rattle.lines.specs.Buffer.{lineBytes, Written}
 use Rattle.passes.specs.Slices.{Slices, roomOf, Tells}
 
 -- ---- what is promised
 
--- the slices have room for the entries, and the buffer 128 bytes for the line of each and for two more
+-- the bytes of a buffer in which there is room for the lines of n entries and two more, however long they are
+abbrev pub bytesFor : ℕ → ℕ
+bytesFor n = lineBytes * (n + 2)
+
+-- the slices have room for the entries, and the buffer for their lines
 abbrev pub enough : Report → Slices → List ℕ → Bool
-enough report σ old = both (leb (report .entries) (roomOf σ)) (leb (128 * (report .entries + 2)) (length old))
+enough report σ old = both (leb (report .entries) (roomOf σ)) (leb (bytesFor (report .entries)) (length old))
 
 -- the text over the front of the buffer, and how long it is; where there is not enough, the buffer as before, and 0
 pub record Printed (text : List ℕ) (ok : Bool) (old new : List ℕ) (r : ℕ) : Type 0 where
@@ -31,7 +34,7 @@ pub record TestPrinted (bs : List ℕ) (limit : ℕ) (σ τ : Slices) (old new :
   pub stored : Tells (test bs limit (roomOf σ)) σ (test bs limit (roomOf σ) .report) τ
   pub text :
       Printed (printed (kidsIn bs) (test bs limit (roomOf σ)))
-      (leb (128 * (length (test bs limit (roomOf σ) .entries) + 2)) (length old)) old new r
+      (leb (bytesFor (length (test bs limit (roomOf σ) .entries))) (length old)) old new r
 
 -- ---- on the way
 

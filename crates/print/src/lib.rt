@@ -1,12 +1,16 @@
 // What `circ` prints, as one text at the front of a buffer that the caller lends.
 ghost use mathlib.Core.Path.{_≡_};
-ghost use Prim.Native.Nat.{_+_, _*_, _/_, _≤_, _<_, min};
+ghost use Prim.Native.Nat.{_+_, _*_, _≤_, _<_};
 ghost use lib.Dec.{leb};
-ghost use lib.ListN.{length, take, drop};
+ghost use lib.ListN.{length, take};
 ghost use Rattle.numbers.specs.Lists.{both};
+ghost use Rattle.lines.specs.Buffer.{lineBytes};
 ghost use Rattle.texts.specs.Lines.{firstLine, rootLine, entryLines, rest, printed};
+ghost use Rattle.steps.specs.Slices.{roomFor};
 ghost use Rattle.passes.specs.Slices.{lent, atEntry, atExit, roomOf, entryAt, entriesTo, readOut};
-ghost use Rattle.print.specs.Texts.{kidsIn, entryText, Placed, enough, Printed, TestPrinted};
+ghost use Rattle.print.specs.Texts.{kidsIn, entryText, Placed, bytesFor, enough, Printed, TestPrinted};
+use grammar::SLOTS;
+use lines::LINE_BYTES;
 use rules::Answer;
 use rules::Report;
 
@@ -18,20 +22,8 @@ fn kids_in(table: &[u8], p: u16) -> usize
     numbers::wide(production.n)
 }
 
-// The seven slots from `at` on.
-fn slots_at(kids: &[u16], at: usize) -> [u16; 7]
-    requires { ⌜ at + 7 ≤ length (now kids) ⌝ }
-    ensures { λ r. ⌜ r ≡ take 7 (drop at (now (kids .entry))) ⌝ }
-{
-    let mut slots = [0u16; 7];
-    for k in 0..7 {
-        slots[k] = kids[at + k];
-    }
-    slots
-}
-
 fn first_line(buf: &mut [u8], report: Report) -> usize
-    ensures { λ r. ⌜ Placed (firstLine report) 128 0 (now (buf .entry)) (now (buf .exit)) r ⌝ }
+    ensures { λ r. ⌜ Placed (firstLine report) lineBytes 0 (now (buf .entry)) (now (buf .exit)) r ⌝ }
 {
     lines::put_first(buf, 0, report)
 }
@@ -50,19 +42,19 @@ fn entry_line(
     ensures { λ r. ⌜ Placed
         (entryText (kidsIn (now (table .entry))) i
         (entryAt (atEntry symbols graphs productions kids) i))
-        128 at (now (buf .entry)) (now (buf .exit)) r ⌝ }
+        lineBytes at (now (buf .entry)) (now (buf .exit)) r ⌝ }
 {
-    let p = productions[i];
-    let slots = slots_at(kids, 7 * i);
+    let entry = steps::entry_of(symbols, graphs, productions, kids, i);
+    let slots = entry.kids;
     lines::put_entry(
         buf,
         at,
         i as u16,
-        symbols[i],
-        p,
+        entry.symbol,
+        entry.production,
         slots,
-        kids_in(table, p),
-        graphs[i],
+        kids_in(table, entry.production),
+        entry.graph,
     )
 }
 
@@ -77,11 +69,11 @@ fn entry_lines(
     kids: &[u16],
 ) -> usize
     requires { ⌜ (count ≤ roomOf (lent symbols graphs productions kids))
-        × (at + 128 * count ≤ length (now buf)) ⌝ }
+        × (at + lineBytes * count ≤ length (now buf)) ⌝ }
     ensures { λ r. ⌜ Placed
         (entryLines (kidsIn (now (table .entry))) 0
         (entriesTo (atEntry symbols graphs productions kids) count))
-        (128 * count) at (now (buf .entry)) (now (buf .exit)) r ⌝ }
+        (lineBytes * count) at (now (buf .entry)) (now (buf .exit)) r ⌝ }
 {
     let mut end = at;
     for i in 0..count {
@@ -90,13 +82,13 @@ fn entry_lines(
     end
 }
 
-fn root_line(buf: &mut [u8], at: usize, table: &[u8], p: u16, root: [u16; 7]) -> usize
-    ensures { λ r. ⌜ Placed (rootLine p (take (kidsIn (now (table .entry)) p) root)) 128 at (now (buf .entry)) (now (buf .exit)) r ⌝ }
+fn root_line(buf: &mut [u8], at: usize, table: &[u8], p: u16, root: [u16; SLOTS]) -> usize
+    ensures { λ r. ⌜ Placed (rootLine p (take (kidsIn (now (table .entry)) p) root)) lineBytes at (now (buf .entry)) (now (buf .exit)) r ⌝ }
 {
     lines::put_root(buf, at, p, root, kids_in(table, p))
 }
 
-// Whether the slices have room for the entries, and the buffer 128 bytes for the line of each and for two more.
+// Whether the slices have room for the entries, and the buffer for the line of each and for two more.
 fn is_enough(
     entries: usize,
     bytes: usize,
@@ -106,13 +98,13 @@ fn is_enough(
     kids: usize,
 ) -> bool
     requires { ⌜ entries < 65536 ⌝ }
-    ensures { λ r. ⌜ r ≡ both (leb entries (min 4096 (min symbols (min graphs (min productions (kids / 7)))))) (leb (128 * (entries + 2)) bytes) ⌝ }
+    ensures { λ r. ⌜ r ≡ both (leb entries (roomFor symbols graphs productions kids)) (leb (bytesFor entries) bytes) ⌝ }
 {
     let room = steps::room_of(symbols, graphs, productions, kids);
     if room < entries {
         return false;
     }
-    128 * (entries + 2) <= bytes
+    LINE_BYTES * (entries + 2) <= bytes
 }
 
 // What follows the first line.
@@ -127,13 +119,13 @@ fn rest_lines(
     kids: &[u16],
 ) -> usize
     requires { ⌜ (report .entries ≤ roomOf (lent symbols graphs productions kids))
-        × (at + 128 * (report .entries + 1) ≤ length (now buf)) ⌝ }
+        × (at + lineBytes * (report .entries + 1) ≤ length (now buf)) ⌝ }
     ensures { λ r. ⌜ Placed
         (rest (report .answer)
         (entryLines (kidsIn (now (table .entry))) 0
         (entriesTo (atEntry symbols graphs productions kids) (report .entries)))
         (λ p. rootLine p (take (kidsIn (now (table .entry)) p) (report .root))))
-        (128 * (report .entries + 1)) at (now (buf .entry)) (now (buf .exit)) r ⌝ }
+        (lineBytes * (report .entries + 1)) at (now (buf .entry)) (now (buf .exit)) r ⌝ }
 {
     let answer = report.answer;
     if let Answer::Refused(_) = answer {
@@ -148,7 +140,7 @@ fn rest_lines(
     root_line(buf, end, table, p, root)
 }
 
-// The text of a report. Where the slices hold fewer entries than it says, or the buffer less than 128 bytes for the line of each and
+// The text of a report. Where the slices hold fewer entries than it says, or the buffer less than LINE_BYTES for the line of each and
 // for two more, nothing is written and the answer is 0.
 pub fn report_text(
     buf: &mut [u8],
@@ -181,7 +173,7 @@ pub fn report_text(
 }
 
 // The text of the test of a table with at most `limit` closures. The stored entries are left at the front of the slices. Where the
-// buffer has less than 128 bytes for the line of each of them and for two more, it is as before and the answer is 0.
+// buffer has less than LINE_BYTES for the line of each of them and for two more, it is as before and the answer is 0.
 pub fn test_text(
     buf: &mut [u8],
     table: &[u8],

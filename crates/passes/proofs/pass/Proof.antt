@@ -5,7 +5,6 @@ use borrow.Author.Needs.{needs}
 use borrow.Author.Tests.{not-true, not-false}
 use native.Mathlib.Omega.{arith}
 use Rattle.numbers.specs.Lists.{upFrom}
-use Rattle.grammar.specs.Table.{grammarOf}
 use Rattle.rules.specs.Passes.{System}
 use Rattle.rules.specs.Test.{systemIn}
 use Rattle.passes.specs.Slices.{Slices, slices}

@@ -1,43 +1,27 @@
 -- The entry's numbers are in the slices. Assumes nothing.
+use mathlib.Core.Path.{_≡_, _∙_}
+use Prim.Native.Nat.{ℕ, _^_, _≤_, _<_}
 use native.Mathlib.Omega.{arith}
 use borrow.Author.Needs.{needs}
 use mir.Syntax.{w16}
 use mir.Val.{Fits}
-use lib.ListN.{getD}
+use lib.ListN.{length, getD}
+use Rattle.lines.specs.Buffer.{lineBytes}
 use Rattle.texts.proofs.Short.{entry-short}
-use Rattle.passes.specs.Slices.{entryAt}
+use Rattle.steps.specs.Slices.{slices, entryAt}
+use Rattle.steps.proofs.Held.{entry-held}
+use Rattle.print.specs.Texts.{entryText}
 use Rattle.print.proofs.entry_line.Statement.{statement}
 use Rattle.print.proofs.entry_line.Tie as tie
 
-mul-p : tie.Need-mul-p
-mul-p c = search needs
-
-shared-slice-read-p : tie.Need-shared-slice-read-p
-shared-slice-read-p c = search needs
-
-mul-slots-at : tie.Need-mul-slots-at
-mul-slots-at c = search needs
-
-slots-at-requires : tie.Need-slots-at-requires
-slots-at-requires c κs = search needs
+entry-of-requires : tie.Need-entry-of-requires
+entry-of-requires c κs = search needs
 
 cast-put-entry : tie.Need-cast-put-entry
 cast-put-entry c = search needs
 
-mul-put-entry : tie.Need-mul-put-entry
-mul-put-entry c = search needs
-
-shared-slice-read-put-entry : tie.Need-shared-slice-read-put-entry
-shared-slice-read-put-entry c = search needs
-
 kids-in-requires : tie.Need-kids-in-requires
 kids-in-requires c κs = search needs
-
-mul-put-entry-2 : tie.Need-mul-put-entry-2
-mul-put-entry-2 c = search needs
-
-shared-slice-read-put-entry-2 : tie.Need-shared-slice-read-put-entry-2
-shared-slice-read-put-entry-2 c = search needs
 
 put-entry-requires : tie.Need-put-entry-requires
 put-entry-requires c κs = search needs
@@ -45,39 +29,30 @@ put-entry-requires c κs = search needs
 same-length : tie.Need-same-length
 same-length c = search needs
 
+-- what was read is an entry, so its line is short
+short : (c : tie.After-entry-of) (n i : ℕ) → i < 2 ^ 16 → length (entryText (λ p. n) i (c .entry-of .result)) ≤ lineBytes
+short c n i h =
+    let e = c .entry-of .result in
+    entry-short (e .kids) n (search needs) (λ j. let small : Fits w16 (getD (e .kids) j 0) = search needs in omega arith)
+    i (e .symbol) (e .production) (e .graph) h (search needs) (search needs) (search needs)
+
 returns : tie.Need-returns
-unfolding entryAt
 returns c =
-    let row = c .before .before .before .before .before .before .before .slots-at in
-    let n = c .before .before .before .before .kids-in in
-    let productions = c .before .before .before .before .before .before .before .before .before .before in
-    let graphs = productions .before in
-    let symbols = graphs .before in
-    let args = symbols .before .before .before .args in
-    let i = args .i in
-    let short =
-    entry-short (row .result) (n .result) (search needs) (λ j. let small : Fits w16 (getD (row .result) j 0) = search needs in omega arith)
-    i (getD (args .symbols .now) i 0) (getD (args .productions .now) i 0) (getD (args .graphs .now) i 0)
-    (search needs)
-    (omega (arith, symbols .shared-slice-known2 .given i))
-    (omega (arith, productions .shared-slice-known4 .given i))
-    (omega (arith, graphs .shared-slice-known3 .given i)) in
-    record { written = rw (n .ensures, row .ensures) at (c .before .before .put-entry .ensures); short = rw (n .ensures, row .ensures) at short }
+    let n = c .before .before .before .kids-in in
+    let read = c .before .before .before .before .before .before in
+    let start = read .before .before .before .before .before .before .before in
+    let a = start .args in
+    let is : read .entry-of .result ≡ entryAt (slices (a .symbols .now) (a .graphs .now) (a .productions .now) (a .kids .now)) (a .i) =
+    read .entry-of .ensures ∙ entry-held _ (a .i) (start .pre) in
+    record { written = rw (n .ensures, is) at (c .before .before .put-entry .ensures); short = rw (n .ensures, is) at (short read (n .result) (a .i) (omega arith)) }
 
 pub entry-line-spec : {M : Type 1} → statement M
 entry-line-spec =
     tie.close
     (tie.spec
-    mul-p
-    shared-slice-read-p
-    mul-slots-at
-    slots-at-requires
+    entry-of-requires
     cast-put-entry
-    mul-put-entry
-    shared-slice-read-put-entry
     kids-in-requires
-    mul-put-entry-2
-    shared-slice-read-put-entry-2
     put-entry-requires
     same-length
     returns)

@@ -3,6 +3,7 @@ use mathlib.Core.Path.{_≡_, refl}
 use Prim.Native.Nat.{_*_, _-_, _≤_}
 use native.Mathlib.Omega.{arith}
 use borrow.Author.Needs.{needs}
+use Rattle.lines.specs.Buffer.{lineBytes}
 use Rattle.texts.specs.Lines.{entryLines}
 use Rattle.passes.specs.Slices.{slices, entriesTo}
 use Rattle.print.specs.Texts.{kidsIn, Placed}
@@ -13,7 +14,7 @@ use Rattle.print.proofs.entry_lines.Tie as tie
 abbrev Inv-loop : tie.InvT-loop
 Inv-loop buf₀ at table count symbols graphs productions kids end₀ i₀ buf end i =
     (i ≤ count)
-    × Placed (entryLines (kidsIn table) 0 (entriesTo (slices symbols graphs productions kids) i)) (128 * i) at buf₀ buf end
+    × Placed (entryLines (kidsIn table) 0 (entriesTo (slices symbols graphs productions kids) i)) (lineBytes * i) at buf₀ buf end
 
 abbrev μ-loop : tie.MeasureT-loop
 μ-loop buf₀ at table count symbols graphs productions kids end₀ i₀ buf end i = count - i
