@@ -8,7 +8,7 @@ use lib.ListN.{length, take, length-append}
 use Rattle.print.proofs.Longer.{whole-input}
 use Rattle.circ.specs.declared.Input.{Input}
 use Rattle.circ.specs.declared.Input.the-variants.{Bytes}
-use Rattle.circ.specs.Whole.{circText, Reported, NoMoreThan}
+use Rattle.circ.specs.Whole.{limit, room, tableBytes, circText, Reported, NoMoreThan}
 
 pub there : {bs old new : List ℕ} {r : ℕ} → Reported bs old new r → r ≤ length new
 there p = rw (p .text, p .count, length-append) (omega arith)
@@ -16,6 +16,6 @@ there p = rw (p .text, p .count, length-append) (omega arith)
 pub read : {i : Input} {n : ℕ} (buf : List ℕ) → i ≡ Bytes n → NoMoreThan i buf → n ≤ length buf
 read buf e w = rw e at w
 
-pub first-bytes : (input : List ℕ) → circText (take 58905 input) ≡ circText input
+pub first-bytes : (input : List ℕ) → circText (take tableBytes input) ≡ circText input
 unfolding circText
-first-bytes input = whole-input input 1000000 1024
+first-bytes input = whole-input input limit room

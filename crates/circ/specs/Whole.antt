@@ -10,9 +10,19 @@ use Rattle.print.specs.Texts.{kidsIn}
 use Rattle.circ.specs.declared.Input.{Input}
 use Rattle.circ.specs.declared.Input.the-variants.{Bytes, Unread}
 
--- with at most 1,000,000 closures and room for 1,024 entries
+-- at most so many closures, and room for so many entries
+abbrev pub limit : ℕ
+limit = 1000000
+
+abbrev pub room : ℕ
+room = 1024
+
+-- one byte more than the longest table has: what stands behind that changes no answer
+abbrev pub tableBytes : ℕ
+tableBytes = 58905
+
 unfoldable pub circText : List ℕ → List ℕ
-circText bs = printed (kidsIn bs) (test bs 1000000 1024)
+circText bs = printed (kidsIn bs) (test bs limit room)
 
 -- the report over the front of the buffer, and how long it is
 pub record Reported (bs old new : List ℕ) (r : ℕ) : Type 0 where

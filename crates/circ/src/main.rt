@@ -1,11 +1,38 @@
 // Reads a grammar table from standard input and prints the report of its circularity test.
 ghost use mathlib.Core.Path.{_≡_};
-ghost use Prim.Native.Nat.{_≤_};
+ghost use Prim.Native.Nat.{_*_, _≤_};
 ghost use lib.ListN.{length};
-ghost use Rattle.circ.specs.Whole.{Reported, NoMoreThan};
+ghost use Rattle.print.specs.Texts.{bytesFor};
+ghost use Rattle.circ.specs.Whole.{room, tableBytes, Reported, NoMoreThan};
+use grammar::EDGE_BYTES;
+use grammar::HEADER_BYTES;
+use grammar::MOST_EDGES;
+use grammar::MOST_PRODUCTIONS;
+use grammar::MOST_SYMBOLS;
+use grammar::PRODUCTION_BYTES;
+use grammar::SLOTS;
+use grammar::SYMBOL_BYTES;
 use libc::STDERR_FILENO;
 use libc::STDIN_FILENO;
 use libc::STDOUT_FILENO;
+use lines::LINE_BYTES;
+
+// The most closures, and the room for entries.
+const LIMIT: u32 = 1_000_000;
+
+const ROOM: usize = 1024;
+
+const KIDS: usize = SLOTS * ROOM;
+
+// One byte more than the longest table has: what stands behind that changes no answer.
+const TABLE_BYTES: usize = HEADER_BYTES
+    + SYMBOL_BYTES * (MOST_SYMBOLS as usize)
+    + PRODUCTION_BYTES * (MOST_PRODUCTIONS as usize)
+    + EDGE_BYTES * (MOST_EDGES as usize)
+    + 1;
+
+// For the line of each entry, and for two more.
+const TEXT_BYTES: usize = LINE_BYTES * (ROOM + 2);
 
 // So many bytes at the front of a buffer, or none because a read failed.
 enum Input {
@@ -32,51 +59,50 @@ fn read_input(buf: &mut [u8]) -> Input
     Input::Bytes(at)
 }
 
-// One byte more than the longest table has: what stands behind that changes no answer.
-fn table_buffer() -> [u8; 58905]
-    ensures { λ r. ⌜ 58905 ≡ length r ⌝ }
+// Each buffer is made by a function: a proof then goes by its length, and does not write out what it holds.
+fn table_buffer() -> [u8; TABLE_BYTES]
+    ensures { λ r. ⌜ tableBytes ≡ length r ⌝ }
 {
-    [0; 58905]
+    [0; TABLE_BYTES]
 }
 
-// 128 bytes for the line of each of 1,024 entries, and for two more.
-fn text_buffer() -> [u8; 131328]
-    ensures { λ r. ⌜ 131328 ≡ length r ⌝ }
+fn text_buffer() -> [u8; TEXT_BYTES]
+    ensures { λ r. ⌜ bytesFor room ≡ length r ⌝ }
 {
-    [0; 131328]
+    [0; TEXT_BYTES]
 }
 
-fn numbers() -> [u16; 1024]
-    ensures { λ r. ⌜ 1024 ≡ length r ⌝ }
+fn zero_numbers() -> [u16; ROOM]
+    ensures { λ r. ⌜ room ≡ length r ⌝ }
 {
-    [0; 1024]
+    [0; ROOM]
 }
 
-fn graphs() -> [u64; 1024]
-    ensures { λ r. ⌜ 1024 ≡ length r ⌝ }
+fn zero_graphs() -> [u64; ROOM]
+    ensures { λ r. ⌜ room ≡ length r ⌝ }
 {
-    [0; 1024]
+    [0; ROOM]
 }
 
-fn kids() -> [u16; 7168]
-    ensures { λ r. ⌜ 7168 ≡ length r ⌝ }
+fn zero_kids() -> [u16; KIDS]
+    ensures { λ r. ⌜ 7 * room ≡ length r ⌝ }
 {
-    [0; 7168]
+    [0; KIDS]
 }
 
-// The report of a table, with at most 1,000,000 closures and room for 1,024 entries.
+// The report of a table.
 fn report(text: &mut [u8], table: &[u8]) -> usize
-    requires { ⌜ 131328 ≤ length (now text) ⌝ }
+    requires { ⌜ bytesFor room ≤ length (now text) ⌝ }
     ensures { λ r. ⌜ Reported (now (table .entry)) (now (text .entry)) (now (text .exit)) r ⌝ }
 {
-    let mut symbols = numbers();
-    let mut graphs = graphs();
-    let mut productions = numbers();
-    let mut kids = kids();
+    let mut symbols = zero_numbers();
+    let mut graphs = zero_graphs();
+    let mut productions = zero_numbers();
+    let mut kids = zero_kids();
     print::test_text(
         text,
         table,
-        1_000_000,
+        LIMIT,
         &mut symbols,
         &mut graphs,
         &mut productions,
