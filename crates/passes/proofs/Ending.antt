@@ -1,6 +1,5 @@
 -- The passes: from the state that was reached to the outcome, and what it tells. Assumes nothing.
 use mathlib.Core.Path.{_≡_, refl, sym, ap, _∙_}
-use mathlib.Core.Bool.{true, false}
 use mathlib.Core.List.{List, map}
 use Prim.Native.Nat.{ℕ, suc, _+_, _-_, _*_, _≤_}
 use native.Mathlib.Nat.{le-refl, sub-zero}
@@ -12,12 +11,13 @@ use Rattle.numbers.specs.Lists.{written}
 use Rattle.rules.specs.declared.Answer.{Answer}
 use Rattle.rules.specs.declared.Answer.the-variants.{Noncircular}
 use Rattle.rules.specs.declared.Entry.{Entry}
+use Rattle.steps.specs.declared.Course.the-variants.{Going, Stopped}
 use Rattle.steps.specs.declared.Run.{Run}
 use Rattle.rules.specs.Passes.{System, State, Ran, going, stopped, andThen, noRoot, pass, Outcome, outcome, after, passesFrom, passes}
 use Rattle.passes.specs.Slices.{Slices, roomOf, Tells, entryAt, entriesTo}
 use Rattle.passes.specs.Follow.{reportOf, stateOf, ranOf, Beyond, Kept, Follows, Roomy}
 use Rattle.passes.proofs.Entries.{length-entries, field-taken, kids-taken, written-over}
-use Rattle.passes.proofs.Following.{kept-same, kept-then, going-by, stopped-by}
+use Rattle.passes.proofs.Following.{kept-same, kept-then, ran-going, ran-stopped}
 use Rattle.passes.proofs.Passing.{through}
 
 -- ---- the room of the slices
@@ -62,13 +62,13 @@ tells o room limit σ r τ q a root begun e k h =
 
 -- `begun` passes have begun, each of which stored an entry; the passes go on from here to their outcome
 pub record Reached (W : System) (limit room : ℕ) (ps : List ℕ) (σ₀ : Slices) (r₀ : Run) (begun : ℕ) (σ : Slices) (r : Run) : Type 0 where
-  pub going : r .going ≡ true
+  pub going : r .course ≡ Going
   pub kept : Kept room σ₀ r₀ σ r
   pub few : begun ≤ r .stored
   pub same : passesFrom W limit room (suc room - begun) ps begun (stateOf limit σ r) ≡ passes W limit room ps
 
 module _ (W : System) (limit room : ℕ) (ps : List ℕ) (σ₀ : Slices) (r₀ : Run) (start : r₀ .left ≡ limit) where
-  pub reached-start : r₀ .stored ≡ 0 → r₀ .going ≡ true → Reached W limit room ps σ₀ r₀ 0 σ₀ r₀
+  pub reached-start : r₀ .stored ≡ 0 → r₀ .course ≡ Going → Reached W limit room ps σ₀ r₀ 0 σ₀ r₀
   unfolding passes entriesTo
   reached-start e g =
       let none : limit - r₀ .left ≡ 0 = omega arith in
@@ -84,7 +84,7 @@ module _ (W : System) (limit room : ℕ) (ps : List ℕ) (σ₀ : Slices) (r₀ 
     ran : ranOf limit τ q ≡ pass W limit room ps (stateOf limit σ r)
     ran =
         f .ran limit (omega (arith, reached .kept .left))
-        ∙ ap (λ (x : Ran). andThen x (through W room ps limit)) (going-by (r .going) (r .answer) (r .root) (stateOf limit σ r) (reached .going))
+        ∙ ap (λ (x : Ran). andThen x (through W room ps limit)) (ran-going limit σ r (reached .going))
 
     more : State → Outcome
     more = passesFrom W limit room (room - begun) ps (suc begun)
@@ -99,14 +99,12 @@ module _ (W : System) (limit room : ℕ) (ps : List ℕ) (σ₀ : Slices) (r₀ 
         ∙ ap (λ (y : Ran). after (stateOf limit σ r) (suc begun) y (passesFrom W limit room (room - begun) ps (suc begun))) (sym ran ∙ h)
 
     -- the run has stopped
-    pub ends-stop : q .going ≡ false → passes W limit room ps ≡ outcome (q .answer) (q .root) (stateOf limit τ q) (begun + 1)
-    ends-stop g =
-        rw add-one
-        (next (stopped (q .answer) (q .root) (stateOf limit τ q)) (stopped-by (q .going) (q .answer) (q .root) (stateOf limit τ q) g))
+    pub ends-stop : (a : Answer) → q .course ≡ Stopped a → passes W limit room ps ≡ outcome a (q .root) (stateOf limit τ q) (begun + 1)
+    ends-stop a g = rw add-one (next (stopped a (q .root) (stateOf limit τ q)) (ran-stopped limit τ q a g))
 
-    module _ (g : q .going ≡ true) where
+    module _ (g : q .course ≡ Going) where
       going-on : ranOf limit τ q ≡ going (stateOf limit τ q)
-      going-on = going-by (q .going) (q .answer) (q .root) (stateOf limit τ q) g
+      going-on = ran-going limit τ q g
 
       -- nothing was stored
       pub ends-done : q .stored ≡ r .stored → passes W limit room ps ≡ outcome Noncircular noRoot (stateOf limit τ q) (begun + 1)

@@ -1,6 +1,5 @@
 -- What it is to follow a rule: nothing, one thing after another, and what a stopped run does. Assumes nothing.
 use mathlib.Core.Path.{_≡_, refl, sym, ap, _∙_}
-use mathlib.Core.Bool.{Bool, true, false, true≢false, false≢true}
 use mathlib.Core.List.{List, [], _∷_, _++_}
 use Prim.Native.Nat.{ℕ, _+_, _-_, _*_, _≤_}
 use native.Mathlib.Nat.{le-refl, le-trans}
@@ -8,6 +7,8 @@ use native.Mathlib.Omega.{arith}
 use lib.ListN.{drop}
 use lib.Seq.{drop-drop}
 use Rattle.rules.specs.declared.Answer.{Answer}
+use Rattle.steps.specs.declared.Course.{Course}
+use Rattle.steps.specs.declared.Course.the-variants.{Going, Stopped}
 use Rattle.steps.specs.declared.Run.{Run}
 use Rattle.steps.specs.declared.Task.{Task}
 use Rattle.rules.specs.Passes.{System, State, Ran, going, stopped, andThen, try, tries, turn, pass}
@@ -66,7 +67,7 @@ module _ (room : ℕ) (σ : Slices) (r : Run) (τ : Slices) (q : Run) (a : Kept 
 
 -- a turn still goes on
 pub kept-ready : (k : Task) (σ : Slices) (r : Run) (τ : Slices) (q : Run)
-    → InTurn k σ r → Kept (k .room) σ r τ q → q .going ≡ true → InTurn k τ q
+    → InTurn k σ r → Kept (k .room) σ r τ q → q .course ≡ Going → InTurn k τ q
 kept-ready k σ r τ q h a g =
     record {
       roomy = kept-roomy (k .room) σ r τ q a (h .roomy);
@@ -90,18 +91,17 @@ pub then-same : (x : Ran) (f g : State → Ran) → ((s : State) → f s ≡ g s
 then-same (going s) f g h = h s
 then-same (stopped a root s) f g h = refl
 
-then-here : (b : Bool) (a : Answer) (root : List ℕ) (s : State) (f g : State → Ran) → f s ≡ g s
-    → andThen (ranBy b a root s) f ≡ andThen (ranBy b a root s) g
-then-here true a root s f g h = h
-then-here false a root s f g h = refl
+then-here : (c : Course) (root : List ℕ) (s : State) (f g : State → Ran) → f s ≡ g s
+    → andThen (ranBy c root s) f ≡ andThen (ranBy c root s) g
+then-here Going root s f g h = h
+then-here (Stopped a) root s f g h = refl
 
-pub stopped-by : (b : Bool) (a : Answer) (root : List ℕ) (s : State) → b ≡ false → ranBy b a root s ≡ stopped a root s
-stopped-by true a root s h = absurd (true≢false h)
-stopped-by false a root s h = refl
+module _ (limit : ℕ) (σ : Slices) (r : Run) where
+  pub ran-going : r .course ≡ Going → ranOf limit σ r ≡ going (stateOf limit σ r)
+  ran-going h = ap (λ (c : Course). ranBy c (r .root) (stateOf limit σ r)) h
 
-pub going-by : (b : Bool) (a : Answer) (root : List ℕ) (s : State) → b ≡ true → ranBy b a root s ≡ going s
-going-by true a root s h = refl
-going-by false a root s h = absurd (false≢true h)
+  pub ran-stopped : (a : Answer) → r .course ≡ Stopped a → ranOf limit σ r ≡ stopped a (r .root) (stateOf limit σ r)
+  ran-stopped a h = ap (λ (c : Course). ranBy c (r .root) (stateOf limit σ r)) h
 
 -- ---- following
 
@@ -114,12 +114,12 @@ module _ (room : ℕ) (σ : Slices) (r : Run) where
       }
 
   -- a run that has stopped does nothing more, whatever the rule
-  pub follows-still : (rule : ℕ → State → Ran) → r .stored ≤ room → r .going ≡ false → Follows room rule σ r σ r
-  follows-still rule h g =
+  pub follows-still : (rule : ℕ → State → Ran) → r .stored ≤ room → (a : Answer) → r .course ≡ Stopped a → Follows room rule σ r σ r
+  follows-still rule h a g =
       record {
         kept = kept-same room σ r r refl (le-refl _) h;
         ran =
-            λ limit l. rw (stopped-by (r .going) (r .answer) (r .root) (stateOf limit σ r) g);
+            λ limit l. rw (ran-stopped limit σ r a g);
       }
 
   module _ (f g : ℕ → State → Ran) (τ : Slices) (q : Run) (a : Follows room f σ r τ q) where
@@ -140,7 +140,7 @@ module _ (room : ℕ) (σ : Slices) (r : Run) where
           kept = a .kept;
           ran =
               λ limit l. a .ran limit l
-              ∙ then-here (r .going) (r .answer) (r .root) (stateOf limit σ r) (f limit) (g limit) (h limit);
+              ∙ then-here (r .course) (r .root) (stateOf limit σ r) (f limit) (g limit) (h limit);
         }
 
     pub follows-same : ((limit : ℕ) (s : State) → f limit s ≡ g limit s) → Follows room g σ r τ q

@@ -1,6 +1,5 @@
 -- A level of a turn: the loop over the candidates of one right symbol, and its ends. Assumes nothing.
 use mathlib.Core.Path.{_≡_, refl, sym, ap, ap₂, _∙_, subst}
-use mathlib.Core.Bool.{false}
 use mathlib.Core.List.{List, [], _∷_, _++_}
 use mathlib.Core.Logic.{⊎-elim}
 use Prim.Native.Nat.{ℕ, suc, _+_, _-_, _≤_, _<_}
@@ -10,6 +9,8 @@ use native.Mathlib.Omega.{arith}
 use lib.ListN.{length, getD, set, take, replicate}
 use lib.Seq.{append-snoc, length-take-le, take-suc-set, getD-set-same, getD-set-other, set-append-seam}
 use Rattle.rules.specs.declared.Entry.{Entry}
+use Rattle.rules.specs.declared.Answer.{Answer}
+use Rattle.steps.specs.declared.Course.the-variants.{Stopped}
 use Rattle.steps.specs.declared.Run.{Run}
 use Rattle.steps.specs.declared.Task.{Task}
 use Rattle.rules.specs.Passes.{State, Ran, going, entry, seven, try, tries}
@@ -106,12 +107,12 @@ module _ (k : Task) (rows : List ℕ) (σ₀ : Slices) (r₀ : Run) (ready : InT
           subst (λ (cs : List (List ℕ)). Follows (k .room) (over k rows cs) σ₀ r₀ σ r) (ap (part 0) h ∙ whole) f
 
       -- the run has stopped: the rest of the level changes nothing
-      pub level-stop : e ≤ k .first → r .going ≡ false → Follows (k .room) (over k rows (combosFrom k begun n picked)) σ₀ r₀ σ r
-      level-stop l g =
+      pub level-stop : e ≤ k .first → (a : Answer) → r .course ≡ Stopped a → Follows (k .room) (over k rows (combosFrom k begun n picked)) σ₀ r₀ σ r
+      level-stop l a g =
           let q : e + (k .first - e) ≡ k .first = omega arith in
           over-then k rows σ₀ σ σ r₀ r r (part 0 e) (part e (k .first - e)) (combosFrom k begun n picked)
           (sym (between-split begun _ _ _ e (k .first - e)) ∙ ap (part 0) q ∙ whole) f
-          (follows-still (k .room) σ r _ (f .kept .fits) g)
+          (follows-still (k .room) σ r _ (f .kept .fits) a g)
 
 -- ---- one more number is picked
 

@@ -1,11 +1,12 @@
 -- A pass: one production after the other. Assumes nothing.
 use mathlib.Core.Path.{_≡_, ap, _∙_}
-use mathlib.Core.Bool.{false}
 use mathlib.Core.List.{List, [], _∷_, _++_}
 use Prim.Native.Nat.{ℕ, _+_, _-_, _≤_}
 use native.Mathlib.Omega.{arith}
 use Rattle.numbers.specs.Lists.{upFrom}
 use Rattle.numbers.proofs.Keeping.{up-more}
+use Rattle.rules.specs.declared.Answer.{Answer}
+use Rattle.steps.specs.declared.Course.the-variants.{Stopped}
 use Rattle.steps.specs.declared.Run.{Run}
 use Rattle.rules.specs.Passes.{System, State, Ran, going, turn, pass}
 use Rattle.passes.specs.Slices.{Slices}
@@ -36,8 +37,8 @@ module _ (W : System) (room : ℕ) where
         (follows-same room σ r (λ limit. turn W limit room i) (through (i ∷ [])) τ q g (λ limit s. pass-one W limit room i s))
 
     -- the run has stopped: the other productions change nothing
-    pub pass-stop : (n : ℕ) → i ≤ n → r .going ≡ false → Follows room (through (upFrom 0 n)) σ₀ r₀ σ r
-    pass-stop n l g =
+    pub pass-stop : (n : ℕ) → i ≤ n → (a : Answer) → r .course ≡ Stopped a → Follows room (through (upFrom 0 n)) σ₀ r₀ σ r
+    pass-stop n l a g =
         let e : i + (n - i) ≡ n = omega arith in
         through-then σ₀ σ σ r₀ r r (upFrom 0 i) (upFrom i (n - i)) (upFrom 0 n) (up-more i (n - i) ∙ ap (upFrom 0) e) f
-        (follows-still room σ r (through (upFrom i (n - i))) (f .kept .fits) g)
+        (follows-still room σ r (through (upFrom i (n - i))) (f .kept .fits) a g)

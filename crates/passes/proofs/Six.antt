@@ -27,7 +27,7 @@ use Rattle.steps.proofs.Fit.{fits-decides}
 use Rattle.steps.proofs.Trying.{tried-run, tried-slices}
 use Rattle.passes.specs.Follow.{stateOf, ranOf, Follows, InTurn, Picked, systemBy}
 use Rattle.passes.proofs.Entries.{length-entries, seen-known, graphs-same, put-stay, put-entries, set-beyond, sets-beyond}
-use Rattle.passes.proofs.Following.{kept-same, going-by}
+use Rattle.passes.proofs.Following.{kept-same, ran-going}
 
 -- ---- the six steps by the verdict
 
@@ -102,7 +102,7 @@ module _ (k : Task) (rows : List ℕ) (σ : Slices) (r : Run) (picked : List ℕ
       → andThen (ranOf limit σ r) (rule limit) ≡ acts now limit
   unfolding try judged
   tried limit l =
-      ap (λ (x : Ran). andThen x (rule limit)) (going-by (r .going) (r .answer) (r .root) (stateOf limit σ r) (ready .going))
+      ap (λ (x : Ran). andThen x (rule limit)) (ran-going limit σ r (ready .going))
       ∙ rw (
         none-left limit (r .left) l,
         left-by k rows (k .number),

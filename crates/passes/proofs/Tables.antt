@@ -1,6 +1,5 @@
 -- What a table that is not refused gives to a turn. Assumes nothing.
 use mathlib.Core.Path.{_≡_, refl, sym, ap, _∙_, subst}
-use mathlib.Core.Bool.{true}
 use mathlib.Core.List.{List}
 use Prim.Native.Nat.{ℕ, suc, _*_, _≤_, _<_}
 use native.Mathlib.Decide.{decLe}
@@ -24,6 +23,7 @@ use Rattle.grammar.proofs.Valid.{valid}
 use Rattle.graph.specs.Rows.{own, placedFrom, compound, closure, hasCircle, rootGraph}
 use Rattle.graph.specs.Compound.{Within, EdgesWithin}
 use Rattle.graph.proofs.Parts.{table-compound}
+use Rattle.steps.specs.declared.Course.the-variants.{Going}
 use Rattle.steps.specs.declared.Run.{Run}
 use Rattle.steps.specs.declared.Task.{Task}
 use Rattle.rules.specs.Passes.{turn}
@@ -93,7 +93,7 @@ module _ (bs : List ℕ) (good : refusal bs ≡ 0) where
 
   -- a turn begins
   module _ (p room : ℕ) (there : p < P bs) (σ : Slices) (r : Run) (k : Task) (made : k ≡ taskOf bs p room (r .stored)) where
-    pub task-ready : Roomy room σ r → r .going ≡ true → InTurn k σ r
+    pub task-ready : Roomy room σ r → r .course ≡ Going → InTurn k σ r
     unfolding taskOf
     task-ready h on =
         subst (λ (t : Task). InTurn t σ r) (sym made)

@@ -1,6 +1,6 @@
 -- The passes over lent slices, where the closures that are left are counted down: what the slices and a run say in the words of the
 -- rules, and what it is to follow a rule. Assumes nothing.
-use mathlib.Core.Bool.{Bool, true, false}
+use mathlib.Core.Bool.{Bool}
 use mathlib.Core.List.{List, _++_, map}
 use mathlib.Core.Path.{_≡_}
 use Prim.Native.Nat.{ℕ, _-_, _*_, _≤_, _<_}
@@ -14,6 +14,8 @@ use Rattle.graph.specs.Parts.{mostNodes}
 use Rattle.rules.specs.declared.Answer.{Answer}
 use Rattle.rules.specs.declared.Entry.{Entry}
 use Rattle.rules.specs.declared.Report.{Report}
+use Rattle.steps.specs.declared.Course.{Course}
+use Rattle.steps.specs.declared.Course.the-variants.{Going, Stopped}
 use Rattle.steps.specs.declared.Run.{Run}
 use Rattle.steps.specs.declared.Task.{Task}
 use Rattle.steps.specs.Step.{closedOver}
@@ -29,12 +31,12 @@ reportOf a root limit r begun = record { answer = a; closures = limit - r .left;
 abbrev pub stateOf : ℕ → Slices → Run → State
 stateOf limit σ r = record { entries = entriesTo σ (r .stored); made = limit - r .left }
 
-abbrev pub ranBy : Bool → Answer → List ℕ → State → Ran
-ranBy true a root s = going s
-ranBy false a root s = stopped a root s
+abbrev pub ranBy : Course → List ℕ → State → Ran
+ranBy Going root s = going s
+ranBy (Stopped a) root s = stopped a root s
 
 abbrev pub ranOf : ℕ → Slices → Run → Ran
-ranOf limit σ r = ranBy (r .going) (r .answer) (r .root) (stateOf limit σ r)
+ranOf limit σ r = ranBy (r .course) (r .root) (stateOf limit σ r)
 
 -- ---- what it is to follow a rule
 
@@ -118,7 +120,7 @@ pub record InTurn (k : Task) (σ : Slices) (r : Run) : Type 0 where
   pub first : k .first ≤ r .stored
   pub few : k .count ≤ 7
   pub slots : length (k .rights) ≡ 7
-  pub going : r .going ≡ true
+  pub going : r .course ≡ Going
 
 -- the first n slots hold numbers of entries with which the turn began, the others 0
 pub record Picked (k : Task) (n : ℕ) (picked : List ℕ) : Type 0 where

@@ -1,6 +1,5 @@
 // The circularity test: the passes over four parallel lent slices of numbers.
 ghost use mathlib.Core.Path.{_≡_};
-ghost use mathlib.Core.Bool.{true};
 ghost use Prim.Native.Nat.{_-_, _≤_, _<_};
 ghost use lib.ListN.{length, set};
 ghost use Rattle.numbers.specs.Lists.{upFrom};
@@ -15,6 +14,7 @@ use grammar::NODES;
 use grammar::SLOTS;
 use rules::Answer;
 use rules::Report;
+use steps::Course;
 use steps::Run;
 use steps::Task;
 
@@ -58,7 +58,8 @@ fn level(
     let mut now = run;
     let mut e = 0;
     while e < first {
-        if !now.going {
+        let course = now.course;
+        if let Course::Stopped(_) = course {
             return now;
         }
         // Counted on before the test: its two ways then go back to the loop, and are proved, each by itself.
@@ -154,7 +155,7 @@ fn turn(
     room: usize,
     run: Run,
 ) -> Run
-    requires { ⌜ (refusal (now table) ≡ 0) × (number < P (now table)) × Roomy room (lent symbols graphs productions kids) run × (run .going ≡ true) ⌝ }
+    requires { ⌜ (refusal (now table) ≡ 0) × (number < P (now table)) × Roomy room (lent symbols graphs productions kids) run × (run .course ≡ Course.Going) ⌝ }
     ensures { λ r. ⌜ Follows room (λ limit. stated.turn (systemIn (now (table .entry))) limit room number)
         (atEntry symbols graphs productions kids) run
         (atExit symbols graphs productions kids) r ⌝ }
@@ -195,7 +196,8 @@ fn pass(
 {
     let mut now = run;
     for number in 0..count {
-        if !now.going {
+        let course = now.course;
+        if let Course::Stopped(_) = course {
             return now;
         }
         now = turn(table, number, symbols, graphs, productions, kids, room, now);
@@ -239,8 +241,8 @@ fn passes(
         let before = now.stored;
         begun += 1;
         now = pass(table, count, symbols, graphs, productions, kids, room, now);
-        if !now.going {
-            let answer = now.answer;
+        let course = now.course;
+        if let Course::Stopped(answer) = course {
             let root = now.root;
             return ended(answer, root, limit, now, begun);
         }

@@ -9,8 +9,9 @@ use Rattle.numbers.specs.Lists.{both, eachBelow, someBelow}
 use Rattle.grammar.specs.Table.{attributes}
 use Rattle.graph.specs.Rows.{placedFrom, closure, hasCircle, rootGraph}
 use Rattle.rules.specs.declared.Answer.{Answer}
-use Rattle.rules.specs.declared.Answer.the-variants.{Noncircular, Circular, OutOfSteps, OutOfRoom}
+use Rattle.rules.specs.declared.Answer.the-variants.{Circular, OutOfSteps, OutOfRoom}
 use Rattle.rules.specs.Passes.{noRoot}
+use Rattle.steps.specs.declared.Course.the-variants.{Going, Stopped}
 use Rattle.steps.specs.declared.Run.{Run}
 use Rattle.steps.specs.declared.Task.{Task}
 use Rattle.steps.specs.declared.Verdict.{Verdict}
@@ -20,10 +21,10 @@ use Rattle.steps.specs.Slices.{Slices, roomOf, put}
 -- ---- a run that goes on, and one that has stopped
 
 abbrev pub goesOn : ℕ → ℕ → Run
-goesOn left stored = record { going = true; answer = Noncircular; root = noRoot; left = left; stored = stored }
+goesOn left stored = record { course = Going; root = noRoot; left = left; stored = stored }
 
 abbrev pub stops : Answer → List ℕ → ℕ → ℕ → Run
-stops a root left stored = record { going = false; answer = a; root = root; left = left; stored = stored }
+stops a root left stored = record { course = Stopped a; root = root; left = left; stored = stored }
 
 -- ---- the tests
 

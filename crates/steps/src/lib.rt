@@ -25,11 +25,16 @@ use rules::Answer;
 use rules::Entry;
 use rules::MOST_ENTRIES;
 
-// Where the passes stand: the closures that are left and how many entries are stored. While the passes go on, `answer` and `root`
-// mean nothing.
+// Whether the passes go on, or with what answer they have stopped.
+pub enum Course {
+    Going,
+    Stopped(Answer),
+}
+
+// Where the passes stand: the closures that are left and how many entries are stored. An enum holds no array, so the root stands beside
+// the course: it is that of a circular answer, and 0 elsewhere.
 pub struct Run {
-    pub going: bool,
-    pub answer: Answer,
+    pub course: Course,
     pub root: [u16; SLOTS],
     pub left: u32,
     pub stored: usize,
@@ -236,8 +241,7 @@ pub fn going_on(left: u32, stored: usize) -> Run
     ensures { λ r. ⌜ r ≡ goesOn left stored ⌝ }
 {
     Run {
-        going: true,
-        answer: Answer::Noncircular,
+        course: Course::Going,
         root: [0u16; SLOTS],
         left,
         stored,
@@ -248,8 +252,7 @@ fn stopped(answer: Answer, root: [u16; SLOTS], left: u32, stored: usize) -> Run
     ensures { λ r. ⌜ r ≡ stops answer root left stored ⌝ }
 {
     Run {
-        going: false,
-        answer,
+        course: Course::Stopped(answer),
         root,
         left,
         stored,

@@ -3,7 +3,6 @@
 use mathlib.Core.Path.{_≡_, subst}
 use Prim.Native.Nat.{ℕ, _<_, _≤_, _+_, _-_}
 use borrow.Author.Needs.{needs}
-use borrow.Author.Tests.{not-true, not-false}
 use native.Mathlib.Omega.{arith}
 use lib.ListN.{length}
 use Rattle.passes.specs.Slices.{Slices, slices}
@@ -122,6 +121,9 @@ level-loop-holds t c =
     let s = c .before .before .before .before .before .before in
     (search needs, level-start (s .args .task) (s .args .own .now) _ (s .args .run) (s .pre .1 .1) (s .args .task .count - s .args .left) (s .args .picked))
 
+level-enum-told : (t : ℕ) → level-lts.Need-enum-told (K t) (level-at t) level.Post level-Inv-loop level-μ-loop
+level-enum-told t c = search needs
+
 level-same-length-5 : (t : ℕ) → level-lts.Need-same-length-5 (K t) (level-at t) level.Post level-Inv-loop level-μ-loop
 level-same-length-5 t c = kept t (c .before .before .before) .symbols .long
 
@@ -137,7 +139,10 @@ level-same-length-8 t c = kept t (c .before .before .before) .kids .long
 level-returns-2 : (t : ℕ) → level-lts.Need-returns-2 (K t) (level-at t) level.Post level-Inv-loop level-μ-loop
 level-returns-2 t c =
     let l = c .before .before .before in
-    level-stop (start t l .args .task) (start t l .args .own .now) (σ₀ t l) (start t l .args .run) (ready t l) (at t l) (start t l .args .picked) (σ t l) (l .loop .now) (l .loop .e) (l .loop .inv .1) (lower t l) (long t l) (l .loop .inv .0) (not-true _ (c .if2 .taken))
+    level-stop (start t l .args .task) (start t l .args .own .now) (σ₀ t l) (start t l .args .run) (ready t l) (at t l) (start t l .args .picked) (σ t l) (l .loop .now) (l .loop .e) (l .loop .inv .1) (lower t l) (long t l) (l .loop .inv .0) _ (c .enum-told .given .1)
+
+level-enum-told-2 : (t : ℕ) → level-lts.Need-enum-told-2 (K t) (level-at t) level.Post level-Inv-loop level-μ-loop
+level-enum-told-2 t c = search needs
 
 level-mul-symbol : (t : ℕ) → level-lts.Need-mul-symbol (K t) (level-at t) level.Post level-Inv-loop level-μ-loop
 level-mul-symbol t c =
@@ -173,7 +178,7 @@ level-level-requires t c κs =
       omega (arith, lower t l, start t l .pre .0),
       (
         omega (arith, lower t l),
-        kept-ready k (σ₀ t l) (start t l .args .run) (σ t l) (l .loop .now) (ready t l) (kept t l) (not-false _ (c .before .before .before .before .before .before .before .if2 .left)),
+        kept-ready k (σ₀ t l) (start t l .args .run) (σ t l) (l .loop .now) (ready t l) (kept t l) (c .before .before .before .before .before .before .before .enum-told2 .given .1),
         picked-more k (at t l) (start t l .args .picked) (l .loop .e) (omega (arith, lower t l, ready t l .few)) (numbers t l) (c .before .before .before .before .before .before .before .before .before .loop-test .taken) _ _ (one-more t l) (next .ensures),
       ),
     )
@@ -187,7 +192,7 @@ level-loop-again : (t : ℕ) → level-lts.Need-loop-again (K t) (level-at t) le
 level-loop-again t c =
     let l = c .before .before .before .before .before .before .before .before .before .before .before .before .before .before .before .before .before .before .before in (
       omega (arith, c .before .before .before .before .before .before .before .before .before .before .before .before .before .before .before .before .before .before .loop-test .taken),
-      level-hit (start t l .args .task) (start t l .args .own .now) (σ₀ t l) (start t l .args .run) (ready t l) (at t l) (start t l .args .picked) (σ t l) (l .loop .now) (l .loop .e) (l .loop .inv .1) (c .before .before .before .before .before .before .before .before .before .before .before .before .before .before .before .before .before .before .loop-test .taken) (in-picked t l) (c .before .before .before .before .before .before .before .before .before .before .before .before .before .before .if3 .taken) _ (c .before .before .before .before .before .before .before .before .before .before .before .before .before .picked-with .result) _ _ (one-more t l) (c .before .before .before .before .before .before .before .before .before .before .before .before .before .picked-with .ensures) (c .before .before .before .before .before .before .before .before .level .ensures),
+      level-hit (start t l .args .task) (start t l .args .own .now) (σ₀ t l) (start t l .args .run) (ready t l) (at t l) (start t l .args .picked) (σ t l) (l .loop .now) (l .loop .e) (l .loop .inv .1) (c .before .before .before .before .before .before .before .before .before .before .before .before .before .before .before .before .before .before .loop-test .taken) (in-picked t l) (c .before .before .before .before .before .before .before .before .before .before .before .before .before .before .if2 .taken) _ (c .before .before .before .before .before .before .before .before .before .before .before .before .before .picked-with .result) _ _ (one-more t l) (c .before .before .before .before .before .before .before .before .before .before .before .before .before .picked-with .ensures) (c .before .before .before .before .before .before .before .before .level .ensures),
     )
 
 level-loop-less-2 : (t : ℕ) → level-lts.Need-loop-less-2 (K t) (level-at t) level.Post level-Inv-loop level-μ-loop
@@ -199,7 +204,7 @@ level-loop-again-2 : (t : ℕ) → level-lts.Need-loop-again-2 (K t) (level-at t
 level-loop-again-2 t c =
     let l = c .before .before .before .before .before in (
       omega (arith, c .before .before .before .before .loop-test .taken),
-      level-other (start t l .args .task) (start t l .args .own .now) (σ₀ t l) (start t l .args .run) (ready t l) (at t l) (start t l .args .picked) (σ t l) (l .loop .now) (l .loop .e) (l .loop .inv .1) (c .before .before .before .before .loop-test .taken) (c .if3 .left),
+      level-other (start t l .args .task) (start t l .args .own .now) (σ₀ t l) (start t l .args .run) (ready t l) (at t l) (start t l .args .picked) (σ t l) (l .loop .now) (l .loop .e) (l .loop .inv .1) (c .before .before .before .before .loop-test .taken) (c .if2 .left),
     )
 
 level-same-length-9 : (t : ℕ) → level-lts.Need-same-length-9 (K t) (level-at t) level.Post level-Inv-loop level-μ-loop
@@ -235,11 +240,13 @@ pub +level-spec : {M : Type 1} → statement M
     (level-mul-right t)
     (level-array-read-right t)
     (level-loop-holds t)
+    (level-enum-told t)
     (level-same-length-5 t)
     (level-same-length-6 t)
     (level-same-length-7 t)
     (level-same-length-8 t)
     (level-returns-2 t)
+    (level-enum-told-2 t)
     (level-mul-symbol t)
     (level-slice-read-symbol t)
     (level-add-e t)

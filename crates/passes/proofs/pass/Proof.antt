@@ -2,7 +2,6 @@
 use mathlib.Core.Path.{_≡_, subst}
 use Prim.Native.Nat.{ℕ, _≤_, _-_}
 use borrow.Author.Needs.{needs}
-use borrow.Author.Tests.{not-true, not-false}
 use native.Mathlib.Omega.{arith}
 use Rattle.numbers.specs.Lists.{upFrom}
 use Rattle.rules.specs.Passes.{System}
@@ -49,6 +48,9 @@ loop-holds c =
     let s = c .before .before .before .before .before in
     (search needs, pass-start (systemIn (s .args .table .now)) (s .args .room) _ (s .args .run) (s .pre .2 .stored))
 
+enum-told : tie.Need-enum-told Inv-loop μ-loop
+enum-told c = search needs
+
 same-length : tie.Need-same-length Inv-loop μ-loop
 same-length c = kept (c .before .before .before) .symbols .long
 
@@ -64,12 +66,15 @@ same-length-4 c = kept (c .before .before .before) .kids .long
 returns : tie.Need-returns Inv-loop μ-loop
 returns c =
     let l = c .before .before .before in
-    pass-stop (W l) (start l .args .room) (σ₀ l) (start l .args .run) (σ l) (l .loop .now) (l .loop .number) (l .loop .inv .1) (start l .args .count) (l .loop .inv .0) (not-true _ (c .if1 .taken))
+    pass-stop (W l) (start l .args .room) (σ₀ l) (start l .args .run) (σ l) (l .loop .now) (l .loop .number) (l .loop .inv .1) (start l .args .count) (l .loop .inv .0) _ (c .enum-told .given .1)
+
+enum-told-2 : tie.Need-enum-told-2 Inv-loop μ-loop
+enum-told-2 c = search needs
 
 turn-requires : tie.Need-turn-requires Inv-loop μ-loop
 turn-requires c κs =
     let l = c .before .before .before .before .before .before .before in
-    (start l .pre .0, omega (arith, c .before .before .before .before .before .before .loop-test .taken, start l .pre .1), roomy l, not-false _ (c .before .before .before .before .if1 .left))
+    (start l .pre .0, omega (arith, c .before .before .before .before .before .before .loop-test .taken, start l .pre .1), roomy l, c .before .before .before .before .enum-told2 .given .1)
 
 add-number : tie.Need-add-number Inv-loop μ-loop
 add-number c =
@@ -109,11 +114,13 @@ pass-spec =
     Inv-loop
     μ-loop
     loop-holds
+    enum-told
     same-length
     same-length-2
     same-length-3
     same-length-4
     returns
+    enum-told-2
     turn-requires
     add-number
     loop-less

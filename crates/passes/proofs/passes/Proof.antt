@@ -4,7 +4,6 @@ use mathlib.Core.Path.{_≡_, ap}
 use mathlib.Core.List.{List}
 use Prim.Native.Nat.{ℕ, _-_}
 use borrow.Author.Needs.{needs}
-use borrow.Author.Tests.{not-true, not-false}
 use native.Mathlib.Omega.{arith}
 use Rattle.numbers.specs.Lists.{upFrom}
 use Rattle.steps.specs.declared.Run.{Run}
@@ -87,7 +86,7 @@ loop-holds c =
     let s = c .before .before .before .before .before .before in
     let b = c .going-on .ensures in
     reached-start (systemIn (s .args .table .now)) (s .args .limit) (s .args .room) (upFrom 0 (s .args .count)) _ (c .going-on .result)
-    (ap (λ (x : Run). x .left) b) (ap (λ (x : Run). x .stored) b) (ap (λ (x : Run). x .going) b)
+    (ap (λ (x : Run). x .left) b) (ap (λ (x : Run). x .stored) b) (ap (λ (x : Run). x .course) b)
 
 add-begun : tie.Need-add-begun Inv-loop μ-loop
 add-begun c = omega (arith, c .loop .inv .few, roomy c .stored, roomy c .small)
@@ -97,28 +96,34 @@ pass-requires c κs =
     let i = c .before .before .before .before in
     (start i .pre .0, start i .pre .1, roomy i)
 
+enum-known-course : tie.Need-enum-known-course Inv-loop μ-loop
+enum-known-course c = search needs
+
 ended-requires : tie.Need-ended-requires Inv-loop μ-loop
 ended-requires c κs =
-    let a = c .before .before .before .before .before .before .before .before .before .before .before in
+    let a = c .before .before .before .before .before .before .before .before .before .before .before .before in
     (omega (arith, kept a .left, full a), omega (arith, roomy-then a .stored, roomy-then a .small))
 
 same-length : tie.Need-same-length Inv-loop μ-loop
-same-length c = kept (c .before .before .before .before .before .before .before .before .before .before .before .before) .symbols .long
+same-length c = kept (c .before .before .before .before .before .before .before .before .before .before .before .before .before) .symbols .long
 
 same-length-2 : tie.Need-same-length-2 Inv-loop μ-loop
-same-length-2 c = kept (c .before .before .before .before .before .before .before .before .before .before .before .before) .graphs .long
+same-length-2 c = kept (c .before .before .before .before .before .before .before .before .before .before .before .before .before) .graphs .long
 
 same-length-3 : tie.Need-same-length-3 Inv-loop μ-loop
-same-length-3 c = kept (c .before .before .before .before .before .before .before .before .before .before .before .before) .productions .long
+same-length-3 c = kept (c .before .before .before .before .before .before .before .before .before .before .before .before .before) .productions .long
 
 same-length-4 : tie.Need-same-length-4 Inv-loop μ-loop
-same-length-4 c = kept (c .before .before .before .before .before .before .before .before .before .before .before .before) .kids .long
+same-length-4 c = kept (c .before .before .before .before .before .before .before .before .before .before .before .before .before) .kids .long
 
 returns : tie.Need-returns Inv-loop μ-loop
 returns c =
-    let a = c .before .before .before .before .before .before .before .before .before .before .before .before in
+    let a = c .before .before .before .before .before .before .before .before .before .before .before .before .before in
     rw (c .ended .ensures)
-    (tells _ (start (l a) .args .room) (start (l a) .args .limit) (σ₀ (l a)) (r₀ (l a)) (τ a) (q a) _ _ _ (ends-stop (W (l a)) (start (l a) .args .limit) (start (l a) .args .room) (ps (l a)) (σ₀ (l a)) (r₀ (l a)) (full a) (l a .loop .begun) (σ (l a)) (l a .loop .now) (l a .loop .inv) (τ a) (q a) (followed a) (not-true _ (c .before .before .if1 .taken))) (kept a) (roomy-then a))
+    (tells _ (start (l a) .args .room) (start (l a) .args .limit) (σ₀ (l a)) (r₀ (l a)) (τ a) (q a) _ _ _ (ends-stop (W (l a)) (start (l a) .args .limit) (start (l a) .args .room) (ps (l a)) (σ₀ (l a)) (r₀ (l a)) (full a) (l a .loop .begun) (σ (l a)) (l a .loop .now) (l a .loop .inv) (τ a) (q a) (followed a) _ (c .before .before .before .course .given .1)) (kept a) (roomy-then a))
+
+enum-told : tie.Need-enum-told Inv-loop μ-loop
+enum-told c = search needs
 
 ended-requires-2 : tie.Need-ended-requires-2 Inv-loop μ-loop
 ended-requires-2 c κs =
@@ -141,17 +146,17 @@ returns-2 : tie.Need-returns-2 Inv-loop μ-loop
 returns-2 c =
     let a = c .before .before .before .before .before .before .before .before .before .before .before .before .before in
     rw (c .ended2 .ensures)
-    (tells _ (start (l a) .args .room) (start (l a) .args .limit) (σ₀ (l a)) (r₀ (l a)) (τ a) (q a) _ _ _ (ends-done (W (l a)) (start (l a) .args .limit) (start (l a) .args .room) (ps (l a)) (σ₀ (l a)) (r₀ (l a)) (full a) (l a .loop .begun) (σ (l a)) (l a .loop .now) (l a .loop .inv) (τ a) (q a) (followed a) (not-false _ (c .before .before .before .if1 .left)) (c .before .if2 .taken)) (kept a) (roomy-then a))
+    (tells _ (start (l a) .args .room) (start (l a) .args .limit) (σ₀ (l a)) (r₀ (l a)) (τ a) (q a) _ _ _ (ends-done (W (l a)) (start (l a) .args .limit) (start (l a) .args .room) (ps (l a)) (σ₀ (l a)) (r₀ (l a)) (full a) (l a .loop .begun) (σ (l a)) (l a .loop .now) (l a .loop .inv) (τ a) (q a) (followed a) (c .before .before .before .enum-told .given .1) (c .before .if1 .taken)) (kept a) (roomy-then a))
 
 loop-less : tie.Need-loop-less Inv-loop μ-loop
 loop-less c =
     let a = c .before .before .before .before .before .before .before .before .before .before .before .before in
-    omega (arith, followed a .kept .more, followed a .kept .fits, c .if2 .left)
+    omega (arith, followed a .kept .more, followed a .kept .fits, c .if1 .left)
 
 loop-again : tie.Need-loop-again Inv-loop μ-loop
 loop-again c =
     let a = c .before .before .before .before .before .before .before .before .before .before .before .before in
-    reached-more (W (l a)) (start (l a) .args .limit) (start (l a) .args .room) (ps (l a)) (σ₀ (l a)) (r₀ (l a)) (full a) (l a .loop .begun) (σ (l a)) (l a .loop .now) (l a .loop .inv) (τ a) (q a) (followed a) (not-false _ (c .before .before .if1 .left)) (c .if2 .left)
+    reached-more (W (l a)) (start (l a) .args .limit) (start (l a) .args .room) (ps (l a)) (σ₀ (l a)) (r₀ (l a)) (full a) (l a .loop .begun) (σ (l a)) (l a .loop .now) (l a .loop .inv) (τ a) (q a) (followed a) (c .before .before .enum-told .given .1) (c .if1 .left)
 
 pub passes-spec : {M : Type 1} → statement M
 passes-spec =
@@ -163,12 +168,14 @@ passes-spec =
     loop-holds
     add-begun
     pass-requires
+    enum-known-course
     ended-requires
     same-length
     same-length-2
     same-length-3
     same-length-4
     returns
+    enum-told
     ended-requires-2
     same-length-5
     same-length-6

@@ -5,10 +5,11 @@ use Prim.Native.Nat.{ℕ, _≤_, _<_}
 use borrow.Author.Needs.{needs}
 use borrow.Author.Tests.{not-true, not-false}
 use native.Mathlib.Omega.{arith}
+use Rattle.steps.specs.declared.Run.{Run}
 use Rattle.steps.specs.declared.Verdict.{Verdict}
 use Rattle.steps.specs.declared.Verdict.the-variants.{Steps, Circle, Known, Full, New}
 use Rattle.steps.specs.Slices.{Slices, slices, roomOf}
-use Rattle.steps.specs.Step.{judged, runAt, slicesAt, fits}
+use Rattle.steps.specs.Step.{judged, runAt, slicesAt, fits, Tried}
 use Rattle.steps.proofs.Judged.{counts, stores, is-left, has-room}
 use Rattle.steps.proofs.Fit.{Fits, fits-decides}
 use Rattle.steps.proofs.Trying.{tried-unfit, tried-at}
@@ -46,6 +47,13 @@ module _ (c : tie.After-judge) where
   roomy : (v : Verdict) → c .judge .result ≡ v → stores v ≡ true → begun .args .run .stored < roomOf (σ past)
   roomy v h i =
       omega (arith, has-room (begun .args .task) (begun .args .own .now) (σ past .symbols) (σ past .graphs) (begun .args .run) (begun .args .picked) (ap stores (told v h) ∙ i) (holds past .within), holds past .held)
+
+  -- what is done at a verdict is what is promised
+  done : (v : Verdict) → c .judge .result ≡ v → (q : Run) (τ : Slices) → q ≡ runAt v (begun .args .task) (begun .args .picked) (begun .args .run)
+      → τ ≡ slicesAt v (begun .args .task) (begun .args .picked) (begun .args .run) (σ past)
+      → Tried (begun .args .task) (begun .args .own .now) (begun .args .picked) (begun .args .run) (σ past) q τ
+  done v h =
+      tried-at (begun .args .task) (begun .args .own .now) (begun .args .picked) (begun .args .run) (σ past) (fit past) v (told v h)
 
 room-of-requires : tie.Need-room-of-requires
 room-of-requires c κs = search needs
@@ -145,10 +153,7 @@ same-length-2 c = search needs
 
 returns-2 : tie.Need-returns-2
 unfolding runAt slicesAt
-returns-2 c =
-    let j = c .before .before .before in
-    let a = begun j .args in
-    tried-at (a .task) (a .own .now) (a .picked) (a .run) (σ (past j)) (fit (past j)) Steps (told j Steps (c .before .enum-told .given .1)) _ _ (c .stopped .ensures) refl
+returns-2 c = done (c .before .before .before) Steps (c .before .enum-told .given .1) _ _ (c .stopped .ensures) refl
 
 same-length-3 : tie.Need-same-length-3
 same-length-3 c = search needs
@@ -158,10 +163,7 @@ same-length-4 c = search needs
 
 returns-3 : tie.Need-returns-3
 unfolding runAt slicesAt
-returns-3 c =
-    let j = c .before .before .before in
-    let a = begun j .args in
-    tried-at (a .task) (a .own .now) (a .picked) (a .run) (σ (past j)) (fit (past j)) Circle (told j Circle (c .before .enum-told2 .given .1)) _ _ (c .stopped2 .ensures) refl
+returns-3 c = done (c .before .before .before) Circle (c .before .enum-told2 .given .1) _ _ (c .stopped2 .ensures) refl
 
 same-length-5 : tie.Need-same-length-5
 same-length-5 c = search needs
@@ -171,10 +173,7 @@ same-length-6 c = search needs
 
 returns-4 : tie.Need-returns-4
 unfolding runAt slicesAt
-returns-4 c =
-    let j = c .before .before .before in
-    let a = begun j .args in
-    tried-at (a .task) (a .own .now) (a .picked) (a .run) (σ (past j)) (fit (past j)) Known (told j Known (c .before .enum-told3 .given .1)) _ _ (c .going-on .ensures) refl
+returns-4 c = done (c .before .before .before) Known (c .before .enum-told3 .given .1) _ _ (c .going-on .ensures) refl
 
 same-length-7 : tie.Need-same-length-7
 same-length-7 c = search needs
@@ -184,10 +183,7 @@ same-length-8 c = search needs
 
 returns-5 : tie.Need-returns-5
 unfolding runAt slicesAt
-returns-5 c =
-    let j = c .before .before .before in
-    let a = begun j .args in
-    tried-at (a .task) (a .own .now) (a .picked) (a .run) (σ (past j)) (fit (past j)) Full (told j Full (c .before .enum-told4 .given .1)) _ _ (c .stopped3 .ensures) refl
+returns-5 c = done (c .before .before .before) Full (c .before .enum-told4 .given .1) _ _ (c .stopped3 .ensures) refl
 
 same-length-9 : tie.Need-same-length-9
 same-length-9 c = search needs
@@ -203,11 +199,7 @@ same-length-12 c = search needs
 
 returns-6 : tie.Need-returns-6
 unfolding runAt slicesAt
-returns-6 c =
-    let j = c .before .before .before .before .before .before .before .before in
-    let a = begun j .args in
-    tried-at (a .task) (a .own .now) (a .picked) (a .run) (σ (past j)) (fit (past j)) (New _) (told j (New _) (c .before .before .before .before .before .before .verdict .given .1)) _ _ (c .going-on2 .ensures)
-    (rw (c .before .before .before .put-row .ensures) refl)
+returns-6 c = done (c .before .before .before .before .before .before .before .before) (New _) (c .before .before .before .before .before .before .verdict .given .1) _ _ (c .going-on2 .ensures) (rw (c .before .before .before .put-row .ensures) refl)
 
 pub try-one-spec : {M : Type 1} → statement M
 try-one-spec =
