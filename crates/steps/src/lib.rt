@@ -118,18 +118,16 @@ pub fn entry_of(
     }
 }
 
-// The rows of the compound graph: to the production's own, each picked entry's pairs at its occurrence.
+// The rows of the compound graph: to the production's own, each picked entry's pairs at its occurrence. Occurrence 0 is the left symbol.
 fn compound(graphs: &[u64], rows: &mut [u64; NODES], task: Task, picked: [u16; SLOTS])
     requires { ⌜ PickedIn (now graphs) task picked ⌝ }
     ensures { λ _. ⌜ now (rows .exit) ≡ placedFrom attributes 1 (graphsOf (now (graphs .entry)) task picked) (now (rows .entry)) ⌝ }
 {
     let count = task.count;
-    let mut k = 0;
-    while k < count {
+    for k in 0..count {
         let kid = numbers::wide(picked[k]);
         let pairs = graphs[kid];
-        k += 1;
-        closures::place(rows, pairs, k);
+        closures::place(rows, pairs, k + 1);
     }
 }
 
