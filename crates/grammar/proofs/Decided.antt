@@ -9,12 +9,11 @@ use Rattle.numbers.specs.Lists.{every}
 use Rattle.numbers.proofs.Decides.{Decides, le-decides, lt-decides, eq-decides, both-decides, every-decides, says}
 use Rattle.grammar.specs.declared.Symbol.{Symbol}
 use Rattle.grammar.specs.declared.Production.{Production}
-use Rattle.grammar.specs.declared.Node.{Node}
 use Rattle.grammar.specs.declared.Edge.{Edge}
-use Rattle.grammar.specs.Grammar.{Grammar, symbol, production, rights, symbolAt}
-use Rattle.grammar.specs.Table.{N, P, E, startOf, atSymbols, atProductions, atEdges, total, widthOf, grammarOf}
-use Rattle.grammar.specs.Rules.{CountsInRange, OffsetsRight, GoodSymbol, GoodProduction, NodeThere, Allowed, GoodEdge, GoodSymbols, GoodProductions}
-use Rattle.grammar.specs.Refusal.{countsOk, offsetsOk, symbolOk, productionOk, nodeOk, allowed, edgeOk}
+use Rattle.grammar.specs.Grammar.{Grammar, rights}
+use Rattle.grammar.specs.Table.{N, P, E, startOf, atSymbols, atProductions, atEdges, total}
+use Rattle.grammar.specs.Rules.{CountsInRange, OffsetsRight, GoodSymbol, GoodProduction, producer, symbolOf, ProductionThere, OccurrencesThere, AttributesThere, Allowed, TargetAllowed, GoodEdge}
+use Rattle.grammar.specs.Refusal.{countsOk, offsetsOk, symbolOk, productionOk, allowed, occurrencesOk, attributesOk, targetOk}
 
 module _ (bs : List ℕ) where
   pub counts-decide : Decides (countsOk bs) (CountsInRange bs)
@@ -74,41 +73,42 @@ production-decides n p =
     (rights-decide n (rights p))
     (spare-decide (drop (p .n) (p .slots))))))
 
-pub node-decides : (g : Grammar) (p : Production) (x : Node) → Decides (nodeOk g p x) (NodeThere g p x)
-unfolding nodeOk
-node-decides g p x =
-    says
-    (λ h. record { occurrence = h .0; attribute = h .1 })
-    (λ r. (r .occurrence, r .attribute))
-    (both-decides
-    (le-decides (x .occurrence) (p .n))
-    (lt-decides (x .attribute) (symbol g (symbolAt p (x .occurrence)) .count)))
-
 pub target-decides : (o i : ℕ) → Decides (allowed o i) (Allowed o i)
 unfolding allowed
 target-decides zero i = eq-decides i 0
 target-decides (suc o) i = eq-decides i 1
 
-pub edge-decides : (g : Grammar) (e : Edge) → Decides (edgeOk g (production g (e .production)) e) (GoodEdge g e)
-unfolding edgeOk
-edge-decides g e =
-    let p = production g (e .production) in
-    says
-    (λ h. record { production-there = h .0; source = h .1 .0; target = h .1 .1 .0; allowed = h .1 .1 .1 })
-    (λ r. (r .production-there, (r .source, (r .target, r .allowed))))
-    (both-decides
-    (lt-decides (e .production) (length (g .productions)))
-    (both-decides
-    (node-decides g p (e .source))
-    (both-decides
-    (node-decides g p (e .target))
-    (target-decides
-    (e .target .occurrence)
-    (bit (e .target .attribute) (symbol g (symbolAt p (e .target .occurrence)) .mask))))))
+module _ (g : Grammar) (e : Edge) where
+  pub there-decides : Decides (ltb (e .production) (length (g .productions))) (ProductionThere g e)
+  there-decides = lt-decides (e .production) (length (g .productions))
 
-module _ (bs : List ℕ) where
-  pub symbols-decide : Decides (every (symbolOk (widthOf bs)) (grammarOf bs .symbols)) (GoodSymbols bs)
-  symbols-decide = every-decides (symbolOk (widthOf bs)) (GoodSymbol (widthOf bs)) (symbol-decides (widthOf bs)) (grammarOf bs .symbols)
+  pub occurrences-decide : Decides (occurrencesOk g e) (OccurrencesThere g e)
+  unfolding occurrencesOk
+  occurrences-decide =
+      both-decides (le-decides (e .source .occurrence) (producer g e .n)) (le-decides (e .target .occurrence) (producer g e .n))
 
-  pub productions-decide : Decides (every (productionOk (N bs)) (grammarOf bs .productions)) (GoodProductions bs)
-  productions-decide = every-decides (productionOk (N bs)) (GoodProduction (N bs)) (production-decides (N bs)) (grammarOf bs .productions)
+  pub attributes-decide : Decides (attributesOk g e) (AttributesThere g e)
+  unfolding attributesOk
+  attributes-decide =
+      both-decides (lt-decides (e .source .attribute) (symbolOf g e (e .source) .count))
+      (lt-decides (e .target .attribute) (symbolOf g e (e .target) .count))
+
+  pub allowed-decides : Decides (targetOk g e) (TargetAllowed g e)
+  unfolding targetOk
+  allowed-decides = target-decides (e .target .occurrence) (bit (e .target .attribute) (symbolOf g e (e .target) .mask))
+
+  -- the four together
+  pub good-edge : ProductionThere g e → OccurrencesThere g e → AttributesThere g e → TargetAllowed g e → GoodEdge g e
+  good-edge p o a t =
+      record {
+        production-there = p;
+        source = record { occurrence = o .0; attribute = a .0 };
+        target = record { occurrence = o .1; attribute = a .1 };
+        allowed = t;
+      }
+
+  pub occurrences : GoodEdge g e → OccurrencesThere g e
+  occurrences h = (h .source .occurrence, h .target .occurrence)
+
+  pub attributes-there : GoodEdge g e → AttributesThere g e
+  attributes-there h = (h .source .attribute, h .target .attribute)

@@ -2,7 +2,7 @@
 pub mod Lookups
 pub mod Seeking
 pub mod Occurrences
-pub mod Handing
+pub mod First
 pub mod Sequence
 pub mod Decided
 pub mod Refused

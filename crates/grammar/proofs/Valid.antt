@@ -1,37 +1,29 @@
 -- A table that is not refused obeys every rule, and its runs are unbroken. Assumes nothing.
-use mathlib.Core.Path.{_≡_, sym, ap, subst}
+use mathlib.Core.Path.{_≡_, refl, sym, ap, subst}
 use mathlib.Core.List.{List, List·Memᴰ}
 use mathlib.Core.Logic.{⊎-elim}
 use Prim.Native.Nat.{ℕ, zero, suc, _≤_, _<_}
-use native.Mathlib.Nat.{lt-irrefl, not-suc-le-zero, le-of-suc-le-suc, eq-or-lt-of-le}
+use native.Mathlib.Nat.{not-suc-le-zero, le-of-suc-le-suc, eq-or-lt-of-le}
 use native.Mathlib.Omega.{arith}
-use lib.Dec.{lit<}
 use Rattle.numbers.specs.Lists.{Below}
 use Rattle.numbers.proofs.Ordered.{below-trans, below-first, stands-at}
 use Rattle.grammar.specs.declared.Edge.{Edge}
-use Rattle.grammar.specs.Table.{E, edgeIn, grammarOf}
-use Rattle.grammar.specs.Rules.{GoodEdge, GoodEdges, BeforeEdges, Breaks, header-short, counts, offsets, symbol-bad, production-bad, edge-bad, edge-order, edge, key, noEdge}
+use Rattle.grammar.specs.declared.Checked.the-variants.{Good}
+use Rattle.grammar.specs.Grammar.{noSymbol, noProduction}
+use Rattle.grammar.specs.Table.{N, E, widthOf, edgeIn, grammarOf}
+use Rattle.grammar.specs.Rules.{GoodSymbol, GoodProduction, GoodEdge, AllGood, EdgeGood, BeforeEdges, Breaks, edge, key, noEdge}
 use Rattle.grammar.specs.Search.{producing}
 use Rattle.grammar.specs.Valid.{Valid, TakenIsValid}
-use Rattle.grammar.proofs.Lookups.{edge-there, edges-many, productions-many}
-use Rattle.grammar.proofs.Refused.{Ending, taken, refused, ending}
+use Rattle.grammar.proofs.Lookups.{edge-there, symbols-many, edges-many, productions-many}
+use Rattle.grammar.proofs.Refused.{Ending, taken, refused, ending, some-rule}
 use Rattle.grammar.proofs.Runs.{run-is-all}
 
 module _ (bs : List ℕ) where
-  some-number : {k : ℕ} → Breaks bs k → 0 < k
-  some-number (header-short n) = lit< tt
-  some-number (counts h n) = lit< tt
-  some-number (offsets h c n) = lit< tt
-  some-number (symbol-bad h c o n) = lit< tt
-  some-number (production-bad h c o s n) = lit< tt
-  some-number (edge-bad b i h all bad) = lit< tt
-  some-number (edge-order b i h all good low) = lit< tt
-
-  not-refused : Ending bs 0 → BeforeEdges bs × GoodEdges (grammarOf bs) (E bs)
+  not-refused : Ending bs Good → BeforeEdges bs × AllGood (EdgeGood (grammarOf bs)) (E bs)
   not-refused (taken b all) = (b, all)
-  not-refused (refused b) = absurd (lt-irrefl 0 (some-number b))
+  not-refused (refused b) = absurd (some-rule bs b refl)
 
-  module _ (before : BeforeEdges bs) (all : GoodEdges (grammarOf bs) (E bs)) where
+  module _ (before : BeforeEdges bs) (all : AllGood (EdgeGood (grammarOf bs)) (E bs)) where
     good : (e : Edge) → List·Memᴰ e (grammarOf bs .edges) → GoodEdge (grammarOf bs) e
     good e m =
         let r = stands-at noEdge e (grammarOf bs .edges) m in
@@ -67,11 +59,15 @@ module _ (bs : List ℕ) where
     is-valid : Valid bs
     is-valid =
         record {
-          header = before .0;
-          counts = before .1;
-          offsets = before .2;
-          symbols = before .3;
-          productions = before .4;
+          header = before .0 .0;
+          counts = before .0 .1;
+          offsets = before .0 .2;
+          symbols = λ s m.
+              let r = stands-at noSymbol s (grammarOf bs .symbols) m in
+              subst (GoodSymbol (widthOf bs)) (sym (r .2)) (before .1 (r .0) (omega (arith, r .1, symbols-many bs)));
+          productions = λ p m.
+              let r = stands-at noProduction p (grammarOf bs .productions) m in
+              subst (GoodProduction (N bs)) (sym (r .2)) (before .2 (r .0) (omega (arith, r .1, productions-many bs)));
           edges = good;
           ordered = all;
           ascending = ascending;
@@ -79,8 +75,8 @@ module _ (bs : List ℕ) where
               run-is-all
               bs
               sorted
-              (omega (arith, before .1 .edges))
-              (before .2 .given)
+              (omega (arith, before .0 .1 .edges))
+              (before .0 .2 .given)
               (λ i h. omega (arith, all i h .0 .production-there, produced i h, productions-many bs));
         }
 

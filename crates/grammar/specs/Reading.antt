@@ -1,21 +1,14 @@
--- What the functions over a table answer: the check, the header, the offsets, an edge by its number, the run of a production's edges. Assumes nothing.
+-- What the functions over a table answer: the header, the offsets, an edge by its number, the run of a production's edges. Assumes nothing.
 use mathlib.Core.Bool.{cond}
 use mathlib.Core.List.{List, []}
-use Prim.Native.Nat.{ℕ, zero, suc, _+_, _-_, _*_}
+use Prim.Native.Nat.{ℕ, _+_, _-_, _*_}
 use lib.Dec.{ltb}
 use lib.ListN.{take, drop}
-use Rattle.grammar.specs.declared.Checked.{Checked}
-use Rattle.grammar.specs.declared.Checked.the-variants.{Good, Refused}
 use Rattle.grammar.specs.declared.Header.{Header}
 use Rattle.grammar.specs.declared.Offsets.{Offsets}
 use Rattle.grammar.specs.declared.Edge.{Edge}
 use Rattle.grammar.specs.Table.{N, P, E, startOf, atSymbols, atProductions, atEdges, total, edgeIn}
 use Rattle.grammar.specs.Search.{runStart, runEnd}
-
--- 0 is no refusal, and any other number is that refusal
-unfoldable pub checked : ℕ → Checked
-checked zero = Good
-checked (suc k) = Refused (suc k)
 
 abbrev pub headerOf : List ℕ → Header
 headerOf bs = record { symbols = N bs; productions = P bs; edges = E bs; start = startOf bs }

@@ -1,18 +1,19 @@
--- The number of the first rule that a table breaks, computed. Assumes nothing.
+-- The first rule that a table breaks, and the first bad record, computed. Assumes nothing.
 use mathlib.Core.Bool.{Bool, true, false, cond}
 use mathlib.Core.List.{List, [], _∷_}
-use Prim.Native.Nat.{ℕ, zero, suc, _^_}
+use Prim.Native.Nat.{ℕ, zero, suc, _-_, _^_}
 use lib.Dec.{leb, ltb, eqb}
 use lib.ListN.{length, drop}
 use Rattle.numbers.specs.Number.{bit, le4}
 use Rattle.numbers.specs.Lists.{both, every, below}
 use Rattle.grammar.specs.declared.Symbol.{Symbol}
 use Rattle.grammar.specs.declared.Production.{Production}
-use Rattle.grammar.specs.declared.Node.{Node}
 use Rattle.grammar.specs.declared.Edge.{Edge}
-use Rattle.grammar.specs.Grammar.{Grammar, symbol, production, rights, symbolAt}
+use Rattle.grammar.specs.declared.Checked.{Checked}
+use Rattle.grammar.specs.declared.Checked.the-variants.{Good, Refused, RefusedAt}
+use Rattle.grammar.specs.Grammar.{Grammar, symbol, production, rights}
 use Rattle.grammar.specs.Table.{N, P, E, startOf, atSymbols, atProductions, atEdges, total, widthOf, grammarOf}
-use Rattle.grammar.specs.Rules.{key}
+use Rattle.grammar.specs.Rules.{producer, symbolOf, key, edge}
 
 unfoldable pub countsOk : List ℕ → Bool
 countsOk bs =
@@ -33,49 +34,74 @@ productionOk n p =
     both (ltb (p .left) n)
     (both (leb (p .n) 7) (both (every (λ s. ltb s n) (rights p)) (every (λ s. eqb s 0) (drop (p .n) (p .slots)))))
 
-unfoldable pub nodeOk : Grammar → Production → Node → Bool
-nodeOk g p x = both (leb (x .occurrence) (p .n)) (ltb (x .attribute) (symbol g (symbolAt p (x .occurrence)) .count))
-
 unfoldable pub allowed : ℕ → ℕ → Bool
 allowed zero inherited = eqb inherited 0
 allowed (suc k) inherited = eqb inherited 1
 
--- with the edge's production p
-unfoldable pub edgeOk : Grammar → Production → Edge → Bool
-edgeOk g p e =
-    both (ltb (e .production) (length (g .productions)))
-    (both (nodeOk g p (e .source))
-    (both (nodeOk g p (e .target))
-    (allowed (e .target .occurrence) (bit (e .target .attribute) (symbol g (symbolAt p (e .target .occurrence)) .mask)))))
+unfoldable pub occurrencesOk : Grammar → Edge → Bool
+occurrencesOk g e = both (leb (e .source .occurrence) (producer g e .n)) (leb (e .target .occurrence) (producer g e .n))
 
--- an edge by its two tests: 6 before 7, else what the edges after it say
-unfoldable pub oneEdge : Bool → Bool → ℕ → ℕ
-oneEdge false above rest = 6
-oneEdge true false rest = 7
-oneEdge true true rest = rest
+unfoldable pub attributesOk : Grammar → Edge → Bool
+attributesOk g e =
+    both (ltb (e .source .attribute) (symbolOf g e (e .source) .count)) (ltb (e .target .attribute) (symbolOf g e (e .target) .count))
 
--- the edges by number, where `before` is the key of the edge before
-unfoldable pub edgesFrom : Grammar → List ℕ → List Edge → ℕ
-edgesFrom g before [] = 0
-edgesFrom g before (e ∷ es) =
-    oneEdge (edgeOk g (production g (e .production)) e) (below before (key e)) (edgesFrom g (key e) es)
+unfoldable pub targetOk : Grammar → Edge → Bool
+targetOk g e = allowed (e .target .occurrence) (bit (e .target .attribute) (symbolOf g e (e .target) .mask))
 
--- the first edge has none before it
-unfoldable pub edgesRefusal : Grammar → List Edge → ℕ
-edgesRefusal g [] = 0
-edgesRefusal g (e ∷ es) = oneEdge (edgeOk g (production g (e .production)) e) true (edgesFrom g (key e) es)
+-- the edge i is above the edge before it; the first has none before
+unfoldable pub inOrder : ℕ → Edge → Edge → Bool
+inOrder zero before e = true
+inOrder (suc i) before e = below (key before) (key e)
 
--- the number of the first rule that the table breaks, 0 where it breaks none
-unfoldable pub refusal : List ℕ → ℕ
+-- ---- the rule that a record breaks, 0 where it breaks none
+
+unfoldable pub orRule : Bool → ℕ → ℕ → ℕ
+orRule true k rest = rest
+orRule false k rest = k
+
+abbrev pub symbolRule : List ℕ → ℕ → ℕ
+symbolRule bs i = orRule (symbolOk (widthOf bs) (symbol (grammarOf bs) i)) 4 0
+
+abbrev pub productionRule : List ℕ → ℕ → ℕ
+productionRule bs i = orRule (productionOk (N bs) (production (grammarOf bs) i)) 5 0
+
+-- the edge e with the number i, after the edge `before`: 10 to 13 in this order, then 7
+unfoldable pub edgeBreaks : Grammar → ℕ → Edge → Edge → ℕ
+edgeBreaks g i before e =
+    orRule (ltb (e .production) (length (g .productions))) 10
+    (orRule (occurrencesOk g e) 11
+    (orRule (attributesOk g e) 12
+    (orRule (targetOk g e) 13
+    (orRule (inOrder i before e) 7 0))))
+
+abbrev pub edgeRule : Grammar → ℕ → ℕ
+edgeRule g i = edgeBreaks g i (edge g (i - 1)) (edge g i)
+
+-- ---- the first record that breaks one decides
+
+unfoldable pub refusedAt : ℕ → ℕ → Checked → Checked
+refusedAt zero i rest = rest
+refusedAt (suc k) i rest = RefusedAt (suc k) i
+
+-- of n records from the number i on
+unfoldable pub firstBad : (ℕ → ℕ) → ℕ → ℕ → Checked
+firstBad rule i zero = Good
+firstBad rule i (suc n) = refusedAt (rule i) i (firstBad rule (suc i) n)
+
+-- the second check is made where the first finds nothing
+unfoldable pub andCheck : Checked → Checked → Checked
+andCheck Good next = next
+andCheck (Refused k) next = Refused k
+andCheck (RefusedAt k i) next = RefusedAt k i
+
+-- what the table is: good, or refused for the first rule that it breaks
+unfoldable pub refusal : List ℕ → Checked
 refusal bs =
     cond (leb 24 (length bs))
     (cond (countsOk bs)
     (cond (offsetsOk bs)
-    (cond (every (symbolOk (widthOf bs)) (grammarOf bs .symbols))
-    (cond (every (productionOk (N bs)) (grammarOf bs .productions))
-    (edgesRefusal (grammarOf bs) (grammarOf bs .edges))
-    5)
-    4)
-    3)
-    2)
-    1
+    (andCheck (firstBad (symbolRule bs) 0 (N bs))
+    (andCheck (firstBad (productionRule bs) 0 (P bs)) (firstBad (edgeRule (grammarOf bs)) 0 (E bs))))
+    (Refused 3))
+    (Refused 2))
+    (Refused 1)

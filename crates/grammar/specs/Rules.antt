@@ -9,6 +9,8 @@ use Rattle.grammar.specs.declared.Symbol.{Symbol}
 use Rattle.grammar.specs.declared.Production.{Production}
 use Rattle.grammar.specs.declared.Node.{Node}
 use Rattle.grammar.specs.declared.Edge.{Edge}
+use Rattle.grammar.specs.declared.Checked.{Checked}
+use Rattle.grammar.specs.declared.Checked.the-variants.{Refused, RefusedAt}
 use Rattle.grammar.specs.Grammar.{Grammar, symbol, production, rights, symbolAt}
 use Rattle.grammar.specs.Table.{N, P, E, startOf, atSymbols, atProductions, atEdges, total, widthOf, grammarOf}
 
@@ -44,7 +46,7 @@ pub record GoodProduction (n : ℕ) (p : Production) : Type 0 where
   pub right : (s : ℕ) → List·Memᴰ s (rights p) → s < n
   pub spare : (s : ℕ) → List·Memᴰ s (drop (p .n) (p .slots)) → s ≡ 0
 
--- 6, edge: an attribute of an occurrence of the production
+-- an attribute of an occurrence of the production
 pub record NodeThere (g : Grammar) (p : Production) (x : Node) : Type 0 where
   pub occurrence : x .occurrence ≤ p .n
   pub attribute : x .attribute < symbol g (symbolAt p (x .occurrence)) .count
@@ -54,13 +56,37 @@ abbrev pub Allowed : ℕ → ℕ → Type 0
 Allowed zero inherited = inherited ≡ 0
 Allowed (suc k) inherited = inherited ≡ 1
 
+-- the production of an edge
+abbrev pub producer : Grammar → Edge → Production
+producer g e = production g (e .production)
+
+-- the symbol at an occurrence of the edge's production
+abbrev pub symbolOf : Grammar → Edge → Node → Symbol
+symbolOf g e x = symbol g (symbolAt (producer g e) (x .occurrence))
+
+-- 10, production: it is there
+abbrev pub ProductionThere : Grammar → Edge → Type 0
+ProductionThere g e = e .production < length (g .productions)
+
+-- 11, occurrence: the source's and the target's are in range
+abbrev pub OccurrencesThere : Grammar → Edge → Type 0
+OccurrencesThere g e = (e .source .occurrence ≤ producer g e .n) × (e .target .occurrence ≤ producer g e .n)
+
+-- 12, attribute: the source's and the target's are in range
+abbrev pub AttributesThere : Grammar → Edge → Type 0
+AttributesThere g e =
+    (e .source .attribute < symbolOf g e (e .source) .count) × (e .target .attribute < symbolOf g e (e .target) .count)
+
+-- 13, target: it is allowed
+abbrev pub TargetAllowed : Grammar → Edge → Type 0
+TargetAllowed g e = Allowed (e .target .occurrence) (bit (e .target .attribute) (symbolOf g e (e .target) .mask))
+
+-- these four together
 pub record GoodEdge (g : Grammar) (e : Edge) : Type 0 where
-  pub production-there : e .production < length (g .productions)
-  pub source : NodeThere g (production g (e .production)) (e .source)
-  pub target : NodeThere g (production g (e .production)) (e .target)
-  pub allowed :
-      Allowed (e .target .occurrence)
-      (bit (e .target .attribute) (symbol g (symbolAt (production g (e .production)) (e .target .occurrence)) .mask))
+  pub production-there : ProductionThere g e
+  pub source : NodeThere g (producer g e) (e .source)
+  pub target : NodeThere g (producer g e) (e .target)
+  pub allowed : TargetAllowed g e
 
 -- 7, edge order: by production, then by the other four fields in their order
 abbrev pub key : Edge → List ℕ
@@ -77,35 +103,58 @@ abbrev pub AboveBefore : Grammar → ℕ → Type 0
 AboveBefore g zero = Unit {0}
 AboveBefore g (suc i) = Below (key (edge g i)) (key (edge g (suc i)))
 
-abbrev pub GoodSymbols : List ℕ → Type 0
-GoodSymbols bs = (s : Symbol) → List·Memᴰ s (grammarOf bs .symbols) → GoodSymbol (widthOf bs) s
+-- ---- which record is bad
 
-abbrev pub GoodProductions : List ℕ → Type 0
-GoodProductions bs = (p : Production) → List·Memᴰ p (grammarOf bs .productions) → GoodProduction (N bs) p
+-- each of the first n records is good
+abbrev pub AllGood : (ℕ → Type 0) → ℕ → Type 0
+AllGood Good n = (j : ℕ) → j < n → Good j
 
--- the first i edges are good and in order
-abbrev pub GoodEdges : Grammar → ℕ → Type 0
-GoodEdges g i = (j : ℕ) → j < i → GoodEdge g (edge g j) × AboveBefore g j
+-- the record i, of n, is the first that is not good
+pub record FirstBad (Good : ℕ → Type 0) (n i : ℕ) : Type 0 where
+  pub there : i < n
+  pub before : AllGood Good i
+  pub bad : ¬ Good i
 
--- what is looked at before the edges
+abbrev pub SymbolGood : List ℕ → ℕ → Type 0
+SymbolGood bs i = GoodSymbol (widthOf bs) (symbol (grammarOf bs) i)
+
+abbrev pub ProductionGood : List ℕ → ℕ → Type 0
+ProductionGood bs i = GoodProduction (N bs) (production (grammarOf bs) i)
+
+-- good, and in order
+abbrev pub EdgeGood : Grammar → ℕ → Type 0
+EdgeGood g i = GoodEdge g (edge g i) × AboveBefore g i
+
+-- the edge i breaks the rule k, and none that is looked at before it: 10 to 13 in this order, then 7
+pub data EdgeBreaks (g : Grammar) (i : ℕ) : ℕ → Type 0 where
+  no-production : (¬ ProductionThere g (edge g i)) → EdgeBreaks g i 10
+  no-occurrence : ProductionThere g (edge g i) → (¬ OccurrencesThere g (edge g i)) → EdgeBreaks g i 11
+  no-attribute : ProductionThere g (edge g i) → OccurrencesThere g (edge g i) → (¬ AttributesThere g (edge g i)) → EdgeBreaks g i 12
+  not-allowed :
+      ProductionThere g (edge g i) → OccurrencesThere g (edge g i) → AttributesThere g (edge g i) → (¬ TargetAllowed g (edge g i))
+      → EdgeBreaks g i 13
+  not-above : GoodEdge g (edge g i) → (¬ AboveBefore g i) → EdgeBreaks g i 7
+
+-- ---- which rule is broken
+
+-- what is looked at before the records
+abbrev pub BeforeRecords : List ℕ → Type 0
+BeforeRecords bs = HasHeader bs × CountsInRange bs × OffsetsRight bs
+
+-- and before the edges
 abbrev pub BeforeEdges : List ℕ → Type 0
-BeforeEdges bs = HasHeader bs × CountsInRange bs × OffsetsRight bs × GoodSymbols bs × GoodProductions bs
+BeforeEdges bs = BeforeRecords bs × AllGood (SymbolGood bs) (N bs) × AllGood (ProductionGood bs) (P bs)
 
--- The table breaks the rule k, and none that is looked at before it: 1 to 5 each over its whole table, then the edges by number,
--- of which the first bad one decides, 6 before 7.
-pub data Breaks (bs : List ℕ) : ℕ → Type 0 where
-  header-short : (¬ HasHeader bs) → Breaks bs 1
-  counts : HasHeader bs → (¬ CountsInRange bs) → Breaks bs 2
-  offsets : HasHeader bs → CountsInRange bs → (¬ OffsetsRight bs) → Breaks bs 3
-  symbol-bad : HasHeader bs → CountsInRange bs → OffsetsRight bs → (¬ GoodSymbols bs) → Breaks bs 4
+-- The table breaks the rule of a number, with the number of a record where the rule is of records, and none that is looked at before it:
+-- 1 to 5 each over its whole table, then the edges by number. Of the records of a table the first bad one decides.
+pub data Breaks (bs : List ℕ) : Checked → Type 0 where
+  header-short : (¬ HasHeader bs) → Breaks bs (Refused 1)
+  counts : HasHeader bs → (¬ CountsInRange bs) → Breaks bs (Refused 2)
+  offsets : HasHeader bs → CountsInRange bs → (¬ OffsetsRight bs) → Breaks bs (Refused 3)
+  symbol-bad : BeforeRecords bs → (i : ℕ) → FirstBad (SymbolGood bs) (N bs) i → Breaks bs (RefusedAt 4 i)
   production-bad :
-      HasHeader bs → CountsInRange bs → OffsetsRight bs → GoodSymbols bs → (¬ GoodProductions bs) → Breaks bs 5
+      BeforeRecords bs → AllGood (SymbolGood bs) (N bs) → (i : ℕ) → FirstBad (ProductionGood bs) (P bs) i
+      → Breaks bs (RefusedAt 5 i)
   edge-bad :
-      BeforeEdges bs
-      → (i : ℕ) → i < E bs → GoodEdges (grammarOf bs) i → (¬ GoodEdge (grammarOf bs) (edge (grammarOf bs) i))
-      → Breaks bs 6
-  edge-order :
-      BeforeEdges bs
-      → (i : ℕ) → i < E bs → GoodEdges (grammarOf bs) i → GoodEdge (grammarOf bs) (edge (grammarOf bs) i)
-      → (¬ AboveBefore (grammarOf bs) i)
-      → Breaks bs 7
+      BeforeEdges bs → (i k : ℕ) → i < E bs → AllGood (EdgeGood (grammarOf bs)) i → EdgeBreaks (grammarOf bs) i k
+      → Breaks bs (RefusedAt k i)

@@ -80,8 +80,10 @@ pub enum Read {
     Refused(u8),
 }
 
-// What a table is: good, or refused by the number of the first rule that it breaks.
+// What a table is: good, or refused by the number of the first rule that it breaks; where that is a rule of a record, with the number of
+// the first bad record, counted from 0 in its own table.
 pub enum Checked {
     Good,
     Refused(u8),
+    RefusedAt(u8, u16),
 }
