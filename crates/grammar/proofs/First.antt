@@ -4,7 +4,8 @@ use Prim.Native.Nat.{ℕ, zero, suc, _+_, _-_, _≤_, _<_}
 use native.Mathlib.Decide.{decLt}
 use native.Mathlib.Omega.{arith}
 use Rattle.grammar.specs.declared.Checked.{Checked}
-use Rattle.grammar.specs.declared.Checked.the-variants.{Good, RefusedAt}
+use Rattle.grammar.specs.declared.Checked.the-variants.{Good, Refused}
+use Rattle.grammar.specs.declared.Broken.the-variants.{Record}
 use Rattle.grammar.specs.Rules.{AllGood}
 use Rattle.grammar.specs.Refusal.{refusedAt, firstBad}
 
@@ -14,7 +15,7 @@ module _ (i : ℕ) (rest : Checked) where
   at-none zero e = refl
   at-none (suc k) e = absurd (omega arith)
 
-  pub at-some : (k : ℕ) → 0 < k → refusedAt k i rest ≡ RefusedAt k i
+  pub at-some : (k : ℕ) → 0 < k → refusedAt k i rest ≡ Refused (Record k i)
   unfolding refusedAt
   at-some zero l = absurd (omega arith)
   at-some (suc k) l = refl
@@ -27,7 +28,7 @@ pub data RuleSaid (Ok : ℕ → Type 0) (Bad : ℕ → ℕ → Type 0) (i : ℕ)
 -- what is said of n records
 pub data FirstTold (Ok : ℕ → Type 0) (Bad : ℕ → ℕ → Type 0) (n : ℕ) : Checked → Type 0 where
   all-good : AllGood Ok n → FirstTold Ok Bad n Good
-  one-bad : (i k : ℕ) → i < n → AllGood Ok i → Bad i k → FirstTold Ok Bad n (RefusedAt k i)
+  one-bad : (i k : ℕ) → i < n → AllGood Ok i → Bad i k → FirstTold Ok Bad n (Refused (Record k i))
 
 pub good-more : (Ok : ℕ → Type 0) (i : ℕ) → AllGood Ok i → Ok i → AllGood Ok (suc i)
 good-more Ok i all here = λ j l. go j l (eq-or-lt j l)
@@ -65,7 +66,7 @@ module _ (rule : ℕ → ℕ) (Ok : ℕ → Type 0) (Bad : ℕ → ℕ → Type 
   first-none n all =
       let a : n ≡ n + 0 = omega arith in ap (firstBad rule 0) a ∙ skipped n 0 0 (λ j l h. all j (omega arith))
 
-  pub first-is : (n i k : ℕ) → i < n → AllGood Ok i → Bad i k → firstBad rule 0 n ≡ RefusedAt k i
+  pub first-is : (n i k : ℕ) → i < n → AllGood Ok i → Bad i k → firstBad rule 0 n ≡ Refused (Record k i)
   first-is n i k l all bad =
       let a : n ≡ i + suc (n - i - 1) = omega arith in
       let b : 0 + i ≡ i = omega arith in

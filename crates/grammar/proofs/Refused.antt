@@ -9,7 +9,9 @@ use lib.Dec.{lit<, ltb}
 use lib.ListN.{length}
 use Rattle.numbers.proofs.Decides.{Decides, Outcome, holds, fails, outcome, not-so, below-decides}
 use Rattle.grammar.specs.declared.Checked.{Checked}
-use Rattle.grammar.specs.declared.Checked.the-variants.{Good, Refused, RefusedAt}
+use Rattle.grammar.specs.declared.Checked.the-variants.{Good, Refused}
+use Rattle.grammar.specs.declared.Broken.{Broken}
+use Rattle.grammar.specs.declared.Broken.the-variants.{Rule, Record}
 use Rattle.grammar.specs.Grammar.{Grammar, symbol, production}
 use Rattle.grammar.specs.Table.{N, P, E, widthOf, grammarOf}
 use Rattle.grammar.specs.Rules.{CountsInRange, OffsetsRight, ProductionThere, OccurrencesThere, AttributesThere, TargetAllowed, AboveBefore, AllGood, FirstBad, SymbolGood, ProductionGood, EdgeGood, EdgeBreaks, no-production, no-occurrence, no-attribute, not-allowed, not-above, BeforeRecords, BeforeEdges, Breaks, header-short, counts, offsets, symbol-bad, production-bad, edge-bad, key, edge}
@@ -57,7 +59,7 @@ module _ (test : ℕ → Bool) (Ok : ℕ → Type 0) (decides : (i : ℕ) → De
   pub single-none : AllGood Ok count → firstBad (λ i. orRule (test i) n 0) 0 count ≡ Good
   single-none = first-none rule Ok (BadBy Ok n) rule-good rule-bad numbered count
 
-  pub single-is : (i : ℕ) → FirstBad Ok count i → firstBad (λ i. orRule (test i) n 0) 0 count ≡ RefusedAt n i
+  pub single-is : (i : ℕ) → FirstBad Ok count i → firstBad (λ i. orRule (test i) n 0) 0 count ≡ Refused (Record n i)
   single-is i f = first-is rule Ok (BadBy Ok n) rule-good rule-bad numbered count i n (f .there) (f .before) (f .bad, refl)
 
   pub single-told : FirstTold Ok (BadBy Ok n) count (firstBad (λ i. orRule (test i) n 0) 0 count)
@@ -186,7 +188,7 @@ module _ (bs : List ℕ) where
   symbols-none : AllGood (SymbolGood bs) (N bs) → symbolsCheck bs ≡ Good
   symbols-none = single-none _ (SymbolGood bs) symbol-test 4 (lit< tt) (N bs)
 
-  symbols-is : (i : ℕ) → FirstBad (SymbolGood bs) (N bs) i → symbolsCheck bs ≡ RefusedAt 4 i
+  symbols-is : (i : ℕ) → FirstBad (SymbolGood bs) (N bs) i → symbolsCheck bs ≡ Refused (Record 4 i)
   symbols-is = single-is _ (SymbolGood bs) symbol-test 4 (lit< tt) (N bs)
 
   symbols-told : FirstTold (SymbolGood bs) (BadBy (SymbolGood bs) 4) (N bs) (symbolsCheck bs)
@@ -195,13 +197,13 @@ module _ (bs : List ℕ) where
   productions-none : AllGood (ProductionGood bs) (P bs) → productionsCheck bs ≡ Good
   productions-none = single-none _ (ProductionGood bs) production-test 5 (lit< tt) (P bs)
 
-  productions-is : (i : ℕ) → FirstBad (ProductionGood bs) (P bs) i → productionsCheck bs ≡ RefusedAt 5 i
+  productions-is : (i : ℕ) → FirstBad (ProductionGood bs) (P bs) i → productionsCheck bs ≡ Refused (Record 5 i)
   productions-is = single-is _ (ProductionGood bs) production-test 5 (lit< tt) (P bs)
 
   productions-told : FirstTold (ProductionGood bs) (BadBy (ProductionGood bs) 5) (P bs) (productionsCheck bs)
   productions-told = single-told _ (ProductionGood bs) production-test 5 (lit< tt) (P bs)
 
-  edges-is : (i k : ℕ) → i < E bs → AllGood (EdgeGood (grammarOf bs)) i → EdgeBreaks (grammarOf bs) i k → edgesCheck bs ≡ RefusedAt k i
+  edges-is : (i k : ℕ) → i < E bs → AllGood (EdgeGood (grammarOf bs)) i → EdgeBreaks (grammarOf bs) i k → edgesCheck bs ≡ Refused (Record k i)
   edges-is = first-is (edgeRule g) (EdgeGood g) (EdgeBreaks g) (edge-good g) (edge-broken g) (edge-some g) (E bs)
 
   edges-told : FirstTold (EdgeGood (grammarOf bs)) (EdgeBreaks (grammarOf bs)) (E bs) (edgesCheck bs)
@@ -210,7 +212,7 @@ module _ (bs : List ℕ) where
 -- ---- the checks in their order
 pub data Ending (bs : List ℕ) : Checked → Type 0 where
   taken : BeforeEdges bs → AllGood (EdgeGood (grammarOf bs)) (E bs) → Ending bs Good
-  refused : {c : Checked} → Breaks bs c → Ending bs c
+  refused : {b : Broken} → Breaks bs b → Ending bs (Refused b)
 
 module _ (bs : List ℕ) where
   by-edges : BeforeEdges bs → (c : Checked) → FirstTold (EdgeGood (grammarOf bs)) (EdgeBreaks (grammarOf bs)) (E bs) c → Ending bs c
@@ -224,7 +226,7 @@ module _ (bs : List ℕ) where
   by-productions b s c d (all-good all) t = by-edges (b, s, all) d t
   by-productions b s c d (one-bad i k l all bad) t =
       refused
-      (subst (λ (j : ℕ). Breaks bs (RefusedAt j i)) (sym (bad .1))
+      (subst (λ (j : ℕ). Breaks bs (Record j i)) (sym (bad .1))
       (production-bad b s i (record { there = l; before = all; bad = bad .0 })))
 
   by-symbols : BeforeRecords bs → (c d e : Checked) → FirstTold (SymbolGood bs) (BadBy (SymbolGood bs) 4) (N bs) c
@@ -234,7 +236,7 @@ module _ (bs : List ℕ) where
   by-symbols b c d e (all-good all) t u = by-productions b all d e t u
   by-symbols b c d e (one-bad i k l all bad) t u =
       refused
-      (subst (λ (j : ℕ). Breaks bs (RefusedAt j i)) (sym (bad .1)) (symbol-bad b i (record { there = l; before = all; bad = bad .0 })))
+      (subst (λ (j : ℕ). Breaks bs (Record j i)) (sym (bad .1)) (symbol-bad b i (record { there = l; before = all; bad = bad .0 })))
 
   pub ending : Ending bs (refusal bs)
   ending = by-header (decLe 24 (length bs))
@@ -262,7 +264,7 @@ module _ (bs : List ℕ) where
   to-records : BeforeRecords bs → refusal bs ≡ andCheck (symbolsCheck bs) (andCheck (productionsCheck bs) (edgesCheck bs))
   to-records b = refusal-records bs (b .0) (counts-decide bs .passes (b .1)) (offsets-decide bs .passes (b .2))
 
-  pub shown : {c : Checked} → Breaks bs c → refusal bs ≡ c
+  pub shown : {b : Broken} → Breaks bs b → refusal bs ≡ Refused b
   unfolding andCheck
   shown (header-short n) = refusal-one bs (omega arith)
   shown (counts h n) = refusal-two bs h (not-so (counts-decide bs) n)
@@ -272,23 +274,9 @@ module _ (bs : List ℕ) where
   shown (edge-bad b i k l all bad) =
       to-records (b .0) ∙ and-good _ (symbols-none bs (b .1)) ∙ and-good _ (productions-none bs (b .2)) ∙ edges-is bs i k l all bad
 
-  pub some-rule : {c : Checked} → Breaks bs c → c ≡ Good → ⊥
-  some-rule (header-short n) e = let z : _≡_ {A = ℕ} 0 1 = cc in omega arith
-  some-rule (counts h n) e = let z : _≡_ {A = ℕ} 0 1 = cc in omega arith
-  some-rule (offsets h c n) e = let z : _≡_ {A = ℕ} 0 1 = cc in omega arith
-  some-rule (symbol-bad b i f) e = let z : _≡_ {A = ℕ} 0 1 = cc in omega arith
-  some-rule (production-bad b s i f) e = let z : _≡_ {A = ℕ} 0 1 = cc in omega arith
-  some-rule (edge-bad b i k l all bad) e = let z : _≡_ {A = ℕ} 0 1 = cc in omega arith
+  broken-by : (c : Checked) → Ending bs c → (b : Broken) → c ≡ Refused b → Breaks bs b
+  broken-by c (taken h all) b e = let z : _≡_ {A = ℕ} 0 1 = cc in absurd (omega arith)
+  broken-by c (refused {b = d} h) b e = let q : d ≡ b = cc in subst (Breaks bs) q h
 
-  broken-by : (c : Checked) → (c ≡ Good → ⊥) → Ending bs c → Breaks bs c
-  broken-by c n (taken b all) = absurd (n refl)
-  broken-by c n (refused b) = b
-
-  pub broken-rule : (c : Checked) → (c ≡ Good → ⊥) → refusal bs ≡ c → Breaks bs c
-  broken-rule c n e = broken-by c n (subst (Ending bs) e (ending))
-
-pub refused-exactly : (bs : List ℕ) → RefusalExactly bs
-refused-exactly bs = record {
-  number = λ k. (broken-rule bs (Refused k) (λ e. let z : _≡_ {A = ℕ} 0 1 = cc in omega arith), shown bs);
-  record-number = λ k i. (broken-rule bs (RefusedAt k i) (λ e. let z : _≡_ {A = ℕ} 0 1 = cc in omega arith), shown bs);
-}
+pub refused-exactly : RefusalExactly
+refused-exactly bs b = (broken-by bs (refusal bs) (ending bs) b, shown bs)

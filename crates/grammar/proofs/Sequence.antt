@@ -7,6 +7,7 @@ use borrow.Author.Tests.{lt-leb, le-leb}
 use lib.ListN.{length}
 use Rattle.grammar.specs.declared.Checked.{Checked}
 use Rattle.grammar.specs.declared.Checked.the-variants.{Good, Refused}
+use Rattle.grammar.specs.declared.Broken.the-variants.{Rule}
 use Rattle.grammar.specs.Table.{N, P, E, grammarOf}
 use Rattle.grammar.specs.Refusal.{countsOk, offsetsOk, symbolRule, productionRule, edgeRule, firstBad, andCheck, refusal}
 
@@ -20,17 +21,17 @@ module _ (bs : List ℕ) where
   abbrev pub edgesCheck : Checked
   edgesCheck = firstBad (edgeRule (grammarOf bs)) 0 (E bs)
 
-  pub refusal-one : length bs < 24 → refusal bs ≡ Refused 1
+  pub refusal-one : length bs < 24 → refusal bs ≡ Refused (Rule 1)
   unfolding refusal
   refusal-one h = simp (lt-leb _ _ h)
 
   module _ (h : 24 ≤ length bs) where
-    pub refusal-two : countsOk bs ≡ false → refusal bs ≡ Refused 2
+    pub refusal-two : countsOk bs ≡ false → refusal bs ≡ Refused (Rule 2)
     unfolding refusal
     refusal-two c = simp (le-leb _ _ h, c)
 
     module _ (c : countsOk bs ≡ true) where
-      pub refusal-three : offsetsOk bs ≡ false → refusal bs ≡ Refused 3
+      pub refusal-three : offsetsOk bs ≡ false → refusal bs ≡ Refused (Rule 3)
       unfolding refusal
       refusal-three o = simp (le-leb _ _ h, c, o)
 

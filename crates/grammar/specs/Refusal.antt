@@ -10,7 +10,8 @@ use Rattle.grammar.specs.declared.Symbol.{Symbol}
 use Rattle.grammar.specs.declared.Production.{Production}
 use Rattle.grammar.specs.declared.Edge.{Edge}
 use Rattle.grammar.specs.declared.Checked.{Checked}
-use Rattle.grammar.specs.declared.Checked.the-variants.{Good, Refused, RefusedAt}
+use Rattle.grammar.specs.declared.Checked.the-variants.{Good, Refused}
+use Rattle.grammar.specs.declared.Broken.the-variants.{Rule, Record}
 use Rattle.grammar.specs.Grammar.{Grammar, symbol, production, rights}
 use Rattle.grammar.specs.Table.{N, P, E, startOf, atSymbols, atProductions, atEdges, total, widthOf, grammarOf}
 use Rattle.grammar.specs.Rules.{producer, symbolOf, key, edge}
@@ -81,7 +82,7 @@ edgeRule g i = edgeBreaks g i (edge g (i - 1)) (edge g i)
 
 unfoldable pub refusedAt : ℕ → ℕ → Checked → Checked
 refusedAt zero i rest = rest
-refusedAt (suc k) i rest = RefusedAt (suc k) i
+refusedAt (suc k) i rest = Refused (Record (suc k) i)
 
 -- of n records from the number i on
 unfoldable pub firstBad : (ℕ → ℕ) → ℕ → ℕ → Checked
@@ -91,8 +92,7 @@ firstBad rule i (suc n) = refusedAt (rule i) i (firstBad rule (suc i) n)
 -- the second check is made where the first finds nothing
 unfoldable pub andCheck : Checked → Checked → Checked
 andCheck Good next = next
-andCheck (Refused k) next = Refused k
-andCheck (RefusedAt k i) next = RefusedAt k i
+andCheck (Refused b) next = Refused b
 
 -- what the table is: good, or refused for the first rule that it breaks
 unfoldable pub refusal : List ℕ → Checked
@@ -102,6 +102,6 @@ refusal bs =
     (cond (offsetsOk bs)
     (andCheck (firstBad (symbolRule bs) 0 (N bs))
     (andCheck (firstBad (productionRule bs) 0 (P bs)) (firstBad (edgeRule (grammarOf bs)) 0 (E bs))))
-    (Refused 3))
-    (Refused 2))
-    (Refused 1)
+    (Refused (Rule 3)))
+    (Refused (Rule 2)))
+    (Refused (Rule 1))

@@ -9,8 +9,8 @@ use Rattle.grammar.specs.declared.Symbol.{Symbol}
 use Rattle.grammar.specs.declared.Production.{Production}
 use Rattle.grammar.specs.declared.Node.{Node}
 use Rattle.grammar.specs.declared.Edge.{Edge}
-use Rattle.grammar.specs.declared.Checked.{Checked}
-use Rattle.grammar.specs.declared.Checked.the-variants.{Refused, RefusedAt}
+use Rattle.grammar.specs.declared.Broken.{Broken}
+use Rattle.grammar.specs.declared.Broken.the-variants.{Rule, Record}
 use Rattle.grammar.specs.Grammar.{Grammar, symbol, production, rights, symbolAt}
 use Rattle.grammar.specs.Table.{N, P, E, startOf, atSymbols, atProductions, atEdges, total, widthOf, grammarOf}
 
@@ -147,14 +147,14 @@ BeforeEdges bs = BeforeRecords bs × AllGood (SymbolGood bs) (N bs) × AllGood (
 
 -- The table breaks the rule of a number, with the number of a record where the rule is of records, and none that is looked at before it:
 -- 1 to 5 each over its whole table, then the edges by number. Of the records of a table the first bad one decides.
-pub data Breaks (bs : List ℕ) : Checked → Type 0 where
-  header-short : (¬ HasHeader bs) → Breaks bs (Refused 1)
-  counts : HasHeader bs → (¬ CountsInRange bs) → Breaks bs (Refused 2)
-  offsets : HasHeader bs → CountsInRange bs → (¬ OffsetsRight bs) → Breaks bs (Refused 3)
-  symbol-bad : BeforeRecords bs → (i : ℕ) → FirstBad (SymbolGood bs) (N bs) i → Breaks bs (RefusedAt 4 i)
+pub data Breaks (bs : List ℕ) : Broken → Type 0 where
+  header-short : (¬ HasHeader bs) → Breaks bs (Rule 1)
+  counts : HasHeader bs → (¬ CountsInRange bs) → Breaks bs (Rule 2)
+  offsets : HasHeader bs → CountsInRange bs → (¬ OffsetsRight bs) → Breaks bs (Rule 3)
+  symbol-bad : BeforeRecords bs → (i : ℕ) → FirstBad (SymbolGood bs) (N bs) i → Breaks bs (Record 4 i)
   production-bad :
       BeforeRecords bs → AllGood (SymbolGood bs) (N bs) → (i : ℕ) → FirstBad (ProductionGood bs) (P bs) i
-      → Breaks bs (RefusedAt 5 i)
+      → Breaks bs (Record 5 i)
   edge-bad :
       BeforeEdges bs → (i k : ℕ) → i < E bs → AllGood (EdgeGood (grammarOf bs)) i → EdgeBreaks (grammarOf bs) i k
-      → Breaks bs (RefusedAt k i)
+      → Breaks bs (Record k i)

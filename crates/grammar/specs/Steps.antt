@@ -6,6 +6,7 @@ use lib.ListN.{length}
 use Rattle.grammar.specs.declared.Symbol.{Symbol}
 use Rattle.grammar.specs.declared.Production.{Production}
 use Rattle.grammar.specs.declared.Edge.{Edge}
+use Rattle.grammar.specs.declared.Broken.{Broken}
 use Rattle.grammar.specs.declared.Checked.{Checked}
 use Rattle.grammar.specs.declared.Read.{Read}
 use Rattle.grammar.specs.Grammar.{Grammar}
@@ -27,7 +28,7 @@ abbrev pub handedUp : ℕ → Read → Checked
 handedUp i (Read.Symbol s) = Checked.Good
 handedUp i (Read.Production p) = Checked.Good
 handedUp i (Read.Edge e) = Checked.Good
-handedUp i (Read.Refused k) = Checked.RefusedAt k i
+handedUp i (Read.Refused k) = Checked.Refused (Broken.Record k i)
 
 -- an edge of a table by its number, after the edge before it: 10 to 13 in this order, then 7
 unfoldable pub edgeRead : Grammar → ℕ → Edge → Edge → Read

@@ -7,7 +7,8 @@ use Rattle.numbers.specs.Lists.{Below}
 use Rattle.grammar.specs.declared.Symbol.{Symbol}
 use Rattle.grammar.specs.declared.Production.{Production}
 use Rattle.grammar.specs.declared.Edge.{Edge}
-use Rattle.grammar.specs.declared.Checked.the-variants.{Good, Refused, RefusedAt}
+use Rattle.grammar.specs.declared.Broken.{Broken}
+use Rattle.grammar.specs.declared.Checked.the-variants.{Good, Refused}
 use Rattle.grammar.specs.Grammar.{edgesOf}
 use Rattle.grammar.specs.Table.{N, E, widthOf, edgesIn, grammarOf}
 use Rattle.grammar.specs.Rules.{HasHeader, CountsInRange, OffsetsRight, GoodSymbol, GoodProduction, GoodEdge, AllGood, EdgeGood, Breaks, key, edge}
@@ -15,9 +16,8 @@ use Rattle.grammar.specs.Refusal.{refusal}
 use Rattle.grammar.specs.Reading.{runOf}
 
 -- a refusal comes exactly for a table that breaks the rule of its number, with the record of its number, and none that is looked at before
-pub record RefusalExactly (bs : List ℕ) : Type 0 where
-  pub number : (k : ℕ) → (refusal bs ≡ Refused k) ↔ Breaks bs (Refused k)
-  pub record-number : (k i : ℕ) → (refusal bs ≡ RefusedAt k i) ↔ Breaks bs (RefusedAt k i)
+abbrev pub RefusalExactly : Type 0
+RefusalExactly = (bs : List ℕ) (b : Broken) → (refusal bs ≡ Refused b) ↔ Breaks bs b
 
 -- a table that obeys every rule
 pub record Valid (bs : List ℕ) : Type 0 where

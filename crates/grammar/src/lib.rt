@@ -80,10 +80,15 @@ pub enum Read {
     Refused(u8),
 }
 
-// What a table is: good, or refused by the number of the first rule that it breaks; where that is a rule of a record, with the number of
-// the first bad record, counted from 0 in its own table.
+// The rule that is broken, by its number; where it is a rule of records, with the number of the first bad one, counted from 0 in its own
+// table.
+pub enum Broken {
+    Rule(u8),
+    Record(u8, u16),
+}
+
+// What a table is: good, or refused for the first rule that it breaks.
 pub enum Checked {
     Good,
-    Refused(u8),
-    RefusedAt(u8, u16),
+    Refused(Broken),
 }

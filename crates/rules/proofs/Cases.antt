@@ -6,6 +6,7 @@ use Prim.Native.Nat.{ℕ}
 use lib.Dec.{eqb}
 use lib.ListN.{replicate}
 use borrow.Author.Tests.{eqb-true}
+use Rattle.grammar.specs.declared.Broken.the-variants.{Rule}
 use Rattle.rules.specs.declared.Answer.{Answer}
 use Rattle.rules.specs.declared.Answer.the-variants.{Noncircular, Circular, Refused, OutOfSteps, OutOfRoom}
 use Rattle.rules.specs.declared.Entry.{Entry}
@@ -58,7 +59,7 @@ pub number-numbered : (k : ℕ) → numberOf (numbered k) ≡ k
 unfolding numbered
 number-numbered k = go (eqb k 8) refl (eqb k 9) refl
   where
-    go : (a : Bool) → eqb k 8 ≡ a → (b : Bool) → eqb k 9 ≡ b → numberOf (cond a OutOfSteps (cond b OutOfRoom (Refused k))) ≡ k
+    go : (a : Bool) → eqb k 8 ≡ a → (b : Bool) → eqb k 9 ≡ b → numberOf (cond a OutOfSteps (cond b OutOfRoom (Refused (Rule k)))) ≡ k
     go true e b f = sym (eqb-true k 8 e)
     go false e true f = sym (eqb-true k 9 f)
     go false e false f = refl

@@ -8,14 +8,16 @@ use native.Mathlib.Omega.{arith}
 use lib.Dec.{eqb}
 use lib.ListN.{length, length-append, length-map, length-replicate, length-take}
 use borrow.Author.Tests.{leb-false}
+use Rattle.grammar.specs.declared.Checked.{Checked}
+use Rattle.grammar.specs.declared.Checked.the-variants.{Good, Refused as Bad}
 use Rattle.grammar.specs.Grammar.{production, rights}
 use Rattle.grammar.specs.Table.{P, grammarOf}
 use Rattle.grammar.specs.Refusal.{refusal}
 use Rattle.grammar.proofs.Lookups.{production-there, production-none, slots-are}
 use Rattle.rules.specs.declared.Answer.the-variants.{Noncircular}
 use Rattle.rules.specs.declared.Entry.{Entry}
-use Rattle.rules.specs.Passes.{System, State, Ran, going, stopped, andThen, seven, noRoot, numbered, candidates, prefixed, combinations, stopIf, goOnIf, try, tries, turn, pass, Outcome, outcome, after, empty, passesFrom, passes}
-use Rattle.rules.specs.Test.{systemOf, systemIn, byNumber, test}
+use Rattle.rules.specs.Passes.{System, State, Ran, going, stopped, andThen, seven, noRoot, candidates, prefixed, combinations, stopIf, goOnIf, try, tries, turn, pass, Outcome, outcome, after, empty, passesFrom, passes}
+use Rattle.rules.specs.Test.{systemOf, systemIn, byNumber, afterCheck, test}
 use Rattle.rules.proofs.Steps.{byTests}
 
 -- ---- every combination has a number for each right symbol
@@ -151,12 +153,12 @@ module _ (bs : List ℕ) where
   few-rights p = let s = slots-seven bs p in rw length-take (omega arith)
 
   pub counted-test : (limit room : ℕ) → Counted room (test bs limit room)
-  unfolding test passes
-  counted-test limit room = go (eqb (refusal bs) 0)
+  unfolding test afterCheck passes
+  counted-test limit room = go (refusal bs)
     where
       nothing : Sound room []
       nothing = record { fits = zero-le; slots = tt }
 
-      go : (b : Bool) → Counted room (cond b (passes (systemIn bs) limit room (byNumber (grammarOf bs))) (outcome (numbered (refusal bs)) noRoot empty 0))
-      go true = counted-passes (systemIn bs) limit room few-rights (suc room) (byNumber (grammarOf bs)) 0 empty nothing
-      go false = record { count = refl; sound = nothing }
+      go : (c : Checked) → Counted room (afterCheck c (passes (systemIn bs) limit room (byNumber (grammarOf bs))))
+      go Good = counted-passes (systemIn bs) limit room few-rights (suc room) (byNumber (grammarOf bs)) 0 empty nothing
+      go (Bad b) = record { count = refl; sound = nothing }

@@ -5,6 +5,7 @@ use Prim.Native.Nat.{ℕ, zero, suc, _-_}
 use lib.Dec.{leb, eqb}
 use lib.ListN.{length, getD, replicate}
 use Rattle.numbers.specs.Lists.{both, upFrom, keep}
+use Rattle.grammar.specs.declared.Broken.the-variants.{Rule, Record}
 use Rattle.rules.specs.declared.Answer.{Answer}
 use Rattle.rules.specs.declared.Answer.the-variants.{Noncircular, Circular, Refused, OutOfSteps, OutOfRoom}
 use Rattle.rules.specs.declared.Report.{Report}
@@ -37,23 +38,29 @@ andThen (stopped a root s) next = stopped a root s
 
 -- the rules' number as a case of the answer
 unfoldable pub numbered : ℕ → Answer
-numbered k = cond (eqb k 8) OutOfSteps (cond (eqb k 9) OutOfRoom (Refused k))
+numbered k = cond (eqb k 8) OutOfSteps (cond (eqb k 9) OutOfRoom (Refused (Rule k)))
 
 -- each case's number. The rules number no verdict: 0 stands for noncircular, and 255 for circular, clear of every refusal
 abbrev pub numberOf : Answer → ℕ
 numberOf Noncircular = 0
 numberOf (Circular p) = 255
-numberOf (Refused k) = k
+numberOf (Refused (Rule k)) = k
+numberOf (Refused (Record k i)) = k
 numberOf OutOfSteps = 8
 numberOf OutOfRoom = 9
 
--- each case's value: the root's production, 0 where there is none
-abbrev pub productionOf : Answer → ℕ
-productionOf Noncircular = 0
-productionOf (Circular p) = p
-productionOf (Refused k) = 0
-productionOf OutOfSteps = 0
-productionOf OutOfRoom = 0
+-- where a case has no value: no production and no record has this number, so none can be taken for one
+abbrev pub noValue : ℕ
+noValue = 4294967295
+
+-- each case's value: the root's production, or the first bad record
+abbrev pub valueOf : Answer → ℕ
+valueOf Noncircular = noValue
+valueOf (Circular p) = p
+valueOf (Refused (Rule k)) = noValue
+valueOf (Refused (Record k i)) = i
+valueOf OutOfSteps = noValue
+valueOf OutOfRoom = noValue
 
 -- seven slots, the unused ones 0
 unfoldable pub seven : List ℕ → List ℕ
@@ -167,7 +174,7 @@ after old begun (going s) more =
 
 -- where the passes would not end by themselves: no rule has the number 0, so no table is refused by it, and this is no answer of any
 abbrev pub unended : Answer
-unended = Refused 0
+unended = Refused (Rule 0)
 
 abbrev pub empty : State
 empty = record { entries = []; made = 0 }

@@ -1,15 +1,16 @@
 -- The circularity test: from the bytes of a table, the closure limit and the room to what comes back. Assumes nothing.
-use mathlib.Core.Bool.{cond}
 use mathlib.Core.List.{List}
 use Prim.Native.Nat.{ℕ}
-use lib.Dec.{eqb}
 use lib.ListN.{length}
 use Rattle.numbers.specs.Lists.{upFrom}
+use Rattle.grammar.specs.declared.Checked.{Checked}
+use Rattle.grammar.specs.declared.Checked.the-variants.{Good, Refused as Bad}
 use Rattle.grammar.specs.Grammar.{Grammar, production, rights, edgesOf}
 use Rattle.grammar.specs.Table.{widthOf, grammarOf}
 use Rattle.grammar.specs.Refusal.{refusal}
 use Rattle.graph.specs.Rows.{compound, closure, hasCircle, rootGraph}
-use Rattle.rules.specs.Passes.{System, Outcome, outcome, numbered, noRoot, empty, passes}
+use Rattle.rules.specs.declared.Answer.the-variants.{Refused}
+use Rattle.rules.specs.Passes.{System, Outcome, outcome, noRoot, empty, passes}
 
 -- the closed rows of a production's compound graph over the graphs gs
 abbrev pub closed : ℕ → Grammar → ℕ → List ℕ → List ℕ
@@ -32,7 +33,10 @@ systemIn bs = systemOf (widthOf bs) (grammarOf bs)
 abbrev pub byNumber : Grammar → List ℕ
 byNumber g = upFrom 0 (length (g .productions))
 
+-- a bad table is refused: nothing is counted and nothing is stored
+unfoldable pub afterCheck : Checked → Outcome → Outcome
+afterCheck Good o = o
+afterCheck (Bad b) o = outcome (Refused b) noRoot empty 0
+
 unfoldable pub test : List ℕ → ℕ → ℕ → Outcome
-test bs limit room =
-    cond (eqb (refusal bs) 0) (passes (systemIn bs) limit room (byNumber (grammarOf bs)))
-    (outcome (numbered (refusal bs)) noRoot empty 0)
+test bs limit room = afterCheck (refusal bs) (passes (systemIn bs) limit room (byNumber (grammarOf bs)))

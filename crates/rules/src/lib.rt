@@ -1,4 +1,5 @@
 // The types that the rules and the code share.
+use grammar::Broken;
 use grammar::SLOTS;
 
 // The most entries: what is lent beyond is never used.
@@ -8,8 +9,8 @@ pub enum Answer {
     Noncircular,
     // The production at the root of the shown tree.
     Circular(u16),
-    // A bad table: the number of its refusal, 1 to 7.
-    Refused(u8),
+    // A bad table: the rule that it breaks, with the record where the rule is of records.
+    Refused(Broken),
     OutOfSteps,
     OutOfRoom,
 }
