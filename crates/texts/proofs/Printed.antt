@@ -2,25 +2,28 @@
 use mathlib.Core.Path.{_≡_, refl}
 use mathlib.Core.List.{List, [], _∷_, _++_, append-nil}
 use Prim.Native.Nat.{ℕ}
+use lib.ListN.{set}
+use Rattle.grammar.specs.declared.Broken.{Broken}
 use Rattle.rules.specs.declared.Answer.the-variants.{Refused}
 use Rattle.rules.specs.Passes.{Outcome}
 use Rattle.rules.specs.Test.{test}
 use Rattle.rules.specs.Opened.{opened}
 use Rattle.rules.specs.Small.{tableA, tableB, tableQ}
-use Rattle.texts.specs.Lines.{ascii, newline, decimal, tagged, firstLine, rest, kidsIn, printed, linesOpened}
+use Rattle.texts.specs.Lines.{ascii, newline, decimal, spaced, brokenNumbers, firstLine, rest, kidsIn, printed, linesOpened}
+
+abbrev printedOf : List ℕ → ℕ → ℕ → List ℕ
+printedOf table limit room = printed (kidsIn table) (test table limit room)
 
 -- a refused table prints nothing else
-pub refused-only : (n : ℕ → ℕ) (o : Outcome) (k : ℕ) → o .report .answer ≡ Refused k → printed n o ≡ tagged "refused " k ++ newline
+pub refused-only : (n : ℕ → ℕ) (o : Outcome) (b : Broken) → o .report .answer ≡ Refused b
+    → printed n o ≡ ascii "refused" ++ spaced (brokenNumbers b) ++ newline
 unfolding printed firstLine rest
-refused-only n o k e = rw (e, append-nil)
+refused-only n o b e = rw (e, append-nil)
 
 pub decimals :
     decimal 0 ++ decimal 9 ++ decimal 10 ++ decimal 100 ++ decimal 18446744073709551615 ≡ ascii "091010018446744073709551615"
 unfolding linesOpened
 decimals = refl
-
-abbrev printedOf : List ℕ → ℕ → ℕ → List ℕ
-printedOf table limit room = printed (kidsIn table) (test table limit room)
 
 -- B's report, whole, as `circ` prints it
 pub printed-B :
@@ -71,3 +74,8 @@ printed-room = refl
 pub printed-refused : printedOf (tableB ++ (0 ∷ [])) 1000000 1024 ≡ ascii "refused 3\n"
 unfolding opened linesOpened tableB
 printed-refused = refl
+
+-- A whose second edge has a target that is not allowed
+pub printed-record : printedOf (set (set tableA 91 1) 93 2) 1000000 1024 ≡ ascii "refused 13 1\n"
+unfolding opened linesOpened tableA
+printed-record = refl

@@ -4,10 +4,12 @@ use mathlib.Core.List.{List, [], _∷_}
 use Prim.Native.Nat.{ℕ, zero, suc, _*_, _^_, _≤_, _<_, zero-le}
 use native.Mathlib.Omega.{arith}
 use lib.ListN.{length, getD, take, length-append}
+use Rattle.grammar.specs.declared.Broken.{Broken}
+use Rattle.grammar.specs.declared.Broken.the-variants.{Rule, Record}
 use Rattle.rules.specs.declared.Answer.{Answer}
 use Rattle.rules.specs.declared.Answer.the-variants.{Noncircular, Circular, Refused, OutOfSteps, OutOfRoom}
 use Rattle.rules.specs.declared.Report.{Report}
-use Rattle.texts.specs.Lines.{decimal, counts, answered, firstLine, spaced, entryLine, rootLine}
+use Rattle.texts.specs.Lines.{decimal, counts, brokenNumbers, answered, firstLine, spaced, entryLine, rootLine}
 use Rattle.texts.proofs.Decimal.{at-most, length-decimal}
 
 -- at most five digits for 16 bits, and at most twenty for 64
@@ -35,9 +37,22 @@ counts-short closures entries passes hc he hp =
     let p = short passes hp in
     simp length-append (omega arith)
 
+-- the number of a rule takes 8 bits, and that of a record 16
+abbrev pub InTypes : Broken → Type 0
+InTypes (Rule k) = k < 2 ^ 8
+InTypes (Record k i) = (k < 2 ^ 8) × (i < 2 ^ 16)
+
+broken-short : (b : Broken) → InTypes b → length (spaced (brokenNumbers b)) ≤ 12
+unfolding spaced
+broken-short (Rule k) h = let few = short k (omega arith) in simp length-append (omega arith)
+broken-short (Record k i) h =
+    let few = short k (omega (arith, h .0)) in
+    let more = short i (h .1) in
+    simp length-append (omega arith)
+
 pub first-short :
     (report : Report) →
-    ((k : ℕ) → report .answer ≡ Refused k → k < 2 ^ 8) →
+    ((b : Broken) → report .answer ≡ Refused b → InTypes b) →
     report .closures < 2 ^ 32 →
     report .entries < 2 ^ 16 →
     report .passes < 2 ^ 16 →
@@ -45,10 +60,10 @@ pub first-short :
 unfolding firstLine
 first-short report hk hc he hp = by (report .answer) _ hk (counts-short _ _ _ hc he hp)
   where
-    by : (a : Answer) (numbers : List ℕ) → ((k : ℕ) → a ≡ Refused k → k < 2 ^ 8) → length numbers ≤ 58 → length (answered a numbers) ≤ 128
+    by : (a : Answer) (numbers : List ℕ) → ((b : Broken) → a ≡ Refused b → InTypes b) → length numbers ≤ 58 → length (answered a numbers) ≤ 128
     by Noncircular numbers hk h = simp length-append (omega arith)
     by (Circular p) numbers hk h = simp length-append (omega arith)
-    by (Refused k) numbers hk h = let few = short k (let small = hk k refl in omega arith) in simp length-append (omega arith)
+    by (Refused b) numbers hk h = let few = broken-short b (hk b refl) in simp length-append (omega arith)
     by OutOfSteps numbers hk h = simp length-append (omega arith)
     by OutOfRoom numbers hk h = simp length-append (omega arith)
 

@@ -6,11 +6,13 @@ use Prim.Native.Nat.{ℕ, suc, _<_}
 use native.Mathlib.Omega.{arith}
 use lib.Dec.{eqb}
 use lib.ListN.{length, getD, take, drop}
+use Rattle.grammar.specs.declared.Broken.{Broken}
+use Rattle.grammar.specs.declared.Broken.the-variants.{Rule, Record}
 use Rattle.rules.specs.declared.Answer.{Answer}
 use Rattle.rules.specs.declared.Answer.the-variants.{Noncircular, Circular, Refused, OutOfSteps, OutOfRoom}
 use Rattle.rules.specs.declared.Entry.{Entry}
 use Rattle.rules.specs.Passes.{Outcome, outcome, entry, seven, noRoot, empty}
-use Rattle.texts.specs.Lines.{ascii, decimal, newline, tagged, answered, counts, firstLine, spaced, kidsText, entryLine, rootLine, entryLines, rest, printed}
+use Rattle.texts.specs.Lines.{ascii, decimal, newline, tagged, brokenNumbers, answered, counts, firstLine, spaced, kidsText, entryLine, rootLine, entryLines, rest, printed}
 use Rattle.texts.specs.Telling.{OthersZero, RootZero, UnprintedZero, PrintedTells}
 use Rattle.texts.proofs.Numbers.{EndsNumber, tagged-told, digit-first}
 
@@ -31,12 +33,6 @@ module _ (c e p c′ e′ p′ : ℕ) (r s : List ℕ) where
       let h₂ = tagged-told " entries " e e′ _ _ refl refl (h₁ .1) in
       let h₃ = tagged-told " passes " p p′ _ _ refl refl (h₂ .1) in
       (h₁ .0, h₂ .0, h₃ .0, append-cancel-left newline r s (h₃ .1))
-
--- a refusal is a line alone
-refused-told : (k l : ℕ) → tagged "refused " k ++ newline ++ [] ≡ tagged "refused " l ++ newline ++ [] → k ≡ l
-refused-told k l h =
-    tagged-told "refused " k l newline newline refl refl
-    (sym (append-nil (tagged "refused " k ++ newline)) ∙ h ∙ append-nil (tagged "refused " l ++ newline)) .0
 
 -- ---- entry numbers
 
@@ -69,6 +65,25 @@ kids-told ks ls r s er es h =
 
 newline-ends : (r : List ℕ) → EndsKids (newline ++ r)
 newline-ends r = record { ends = refl; none = λ k s h. let z : _≡_ {A = ℕ} 10 32 = ap (λ (l : List ℕ). getD l 0 0) h in omega arith }
+
+-- a refusal is a line alone
+broken-told : (b c : Broken) → brokenNumbers b ≡ brokenNumbers c → b ≡ c
+broken-told (Rule k) (Rule l) h = cc
+broken-told (Rule k) (Record l i) h = let z : _≡_ {A = ℕ} 0 1 = cc in absurd (omega arith)
+broken-told (Record k i) (Rule l) h = let z : _≡_ {A = ℕ} 0 1 = cc in absurd (omega arith)
+broken-told (Record k i) (Record l j) h = cc
+
+refused-told : (b c : Broken) → answered (Refused b) [] ++ [] ≡ answered (Refused c) [] ++ [] → b ≡ c
+refused-told b c h =
+    let t = ascii "refused" in
+    broken-told b c
+    (spaced-told (brokenNumbers b) (brokenNumbers c) newline newline (newline-ends []) (newline-ends [])
+    (append-cancel-left t (spaced (brokenNumbers b) ++ newline) (spaced (brokenNumbers c) ++ newline)
+    (sym (append-assoc t (spaced (brokenNumbers b)) newline)
+    ∙ sym (append-nil (t ++ spaced (brokenNumbers b) ++ newline))
+    ∙ h
+    ∙ append-nil (t ++ spaced (brokenNumbers c) ++ newline)
+    ∙ append-assoc t (spaced (brokenNumbers c)) newline)) .0)
 
 graph-ends : (g : ℕ) (r : List ℕ) → EndsKids (tagged " graph " g ++ r)
 graph-ends g r = record { ends = refl; none = λ k s h. digit-first k 103 s _ refl (ap (drop 1) (sym h)) }
@@ -158,7 +173,7 @@ data Word : Type 0 where
 data Says : Word → Answer → Type 0 where
   noncircular : Says Word.noncircular Noncircular
   circular : (p : ℕ) → Says Word.circular (Circular p)
-  refused : (k : ℕ) → Says Word.refused (Refused k)
+  refused : (b : Broken) → Says Word.refused (Refused b)
   steps : Says Word.steps OutOfSteps
   room : Says Word.room OutOfRoom
 
@@ -256,7 +271,7 @@ module _ (n n′ : ℕ → ℕ) (o o′ : Outcome) (z : Slotted n (o .entries)) 
       let h₂ = root-told p q _ _ (h₁ .1) in
       joined (Circular p) (Circular q) ea eb (ap Circular (h₂ .0)) (slots-told (n p) (n′ q) (o .report .root) (o′ .report .root) r r′ (h₂ .1)) (h₁ .0)
   told w a b (refused k) (refused l) ea eb r r′ h =
-      r ∙ ap (λ (m : ℕ). outcome (Refused m) noRoot empty 0) (refused-told k l h) ∙ sym r′
+      r ∙ ap (λ (b : Broken). outcome (Refused b) noRoot empty 0) (refused-told k l h) ∙ sym r′
   told w a b steps steps ea eb r r′ h = joined OutOfSteps OutOfSteps ea eb refl (r ∙ sym r′) (plain-told (ascii "out-of-steps") h)
   told w a b room room ea eb r r′ h = joined OutOfRoom OutOfRoom ea eb refl (r ∙ sym r′) (plain-told (ascii "out-of-room") h)
 

@@ -9,6 +9,8 @@ use lib.ListN.{take}
 use Rattle.io.specs.Digits.{digits}
 use Rattle.grammar.specs.Grammar.{production}
 use Rattle.grammar.specs.Table.{grammarOf}
+use Rattle.grammar.specs.declared.Broken.{Broken}
+use Rattle.grammar.specs.declared.Broken.the-variants.{Rule, Record}
 use Rattle.rules.specs.declared.Answer.{Answer}
 use Rattle.rules.specs.declared.Answer.the-variants.{Noncircular, Circular, Refused, OutOfSteps, OutOfRoom}
 use Rattle.rules.specs.declared.Report.{Report}
@@ -45,11 +47,21 @@ tagged tag n = ascii tag ++ decimal n
 
 -- ---- the lines
 
--- the answer's word before the three numbers; a refusal stands alone, with its number
+-- each number after a blank
+unfoldable pub spaced : List ℕ → List ℕ
+spaced [] = []
+spaced (k ∷ ks) = tagged " " k ++ spaced ks
+
+-- the number of the rule that is broken, and that of the record where there is one
+abbrev pub brokenNumbers : Broken → List ℕ
+brokenNumbers (Rule k) = k ∷ []
+brokenNumbers (Record k i) = k ∷ i ∷ []
+
+-- the answer's word before the three numbers; a refusal stands alone, with its own
 abbrev pub answered : Answer → List ℕ → List ℕ
 answered Noncircular numbers = ascii "noncircular" ++ numbers
 answered (Circular p) numbers = ascii "circular" ++ numbers
-answered (Refused k) numbers = tagged "refused " k ++ newline
+answered (Refused b) numbers = ascii "refused" ++ spaced (brokenNumbers b) ++ newline
 answered OutOfSteps numbers = ascii "out-of-steps" ++ numbers
 answered OutOfRoom numbers = ascii "out-of-room" ++ numbers
 
@@ -59,11 +71,6 @@ counts closures entries passes =
 
 unfoldable pub firstLine : Report → List ℕ
 firstLine r = answered (r .answer) (counts (r .closures) (r .entries) (r .passes))
-
--- each number after a blank
-unfoldable pub spaced : List ℕ → List ℕ
-spaced [] = []
-spaced (k ∷ ks) = tagged " " k ++ spaced ks
 
 abbrev pub kidsText : List ℕ → List ℕ
 kidsText kids = ascii " kids" ++ spaced kids
@@ -96,7 +103,7 @@ entryLines n i (e ∷ es) =
 unfoldable pub rest : Answer → List ℕ → (ℕ → List ℕ) → List ℕ
 rest Noncircular entries root = entries
 rest (Circular p) entries root = entries ++ root p
-rest (Refused k) entries root = []
+rest (Refused b) entries root = []
 rest OutOfSteps entries root = entries
 rest OutOfRoom entries root = entries
 
