@@ -3,9 +3,10 @@ ghost use mathlib.Core.Path.{_≡_};
 ghost use mathlib.Core.List.{_++_, []};
 ghost use Prim.Native.Nat.{_+_, _≤_};
 ghost use lib.ListN.{length, take, drop};
-ghost use Rattle.texts.specs.Lines.{newline, decimal, places, tagged, counts, answered, firstLine, kidsText, entryLine, rootLine};
+ghost use Rattle.texts.specs.Lines.{ascii, newline, decimal, places, tagged, spaced, brokenNumbers, counts, answered, firstLine, kidsText, entryLine, rootLine};
 ghost use Rattle.lines.specs.Buffer.{lineBytes, Written};
 ghost use Rattle.lines.specs.Pieces.{text, PieceAfter, LineIs};
+use grammar::Broken;
 use grammar::SLOTS;
 use rules::Answer;
 use rules::Report;
@@ -58,7 +59,7 @@ fn first_line(answer: Answer, closures: u32, entries: u16, passes: u16) -> Line
     match answer {
         Answer::Noncircular => counted(b"noncircular", closures, entries, passes),
         Answer::Circular(_) => counted(b"circular", closures, entries, passes),
-        Answer::Refused(number) => refused(number),
+        Answer::Refused(broken) => refused(broken),
         Answer::OutOfSteps => counted(b"out-of-steps", closures, entries, passes),
         Answer::OutOfRoom => counted(b"out-of-room", closures, entries, passes),
     }
@@ -75,11 +76,28 @@ fn counted(word: &[u8], closures: u32, entries: u16, passes: u16) -> Line
     with_word(to_passes, b"\n")
 }
 
-fn refused(number: u8) -> Line
+fn refused(broken: Broken) -> Line
+    ensures { λ r. ⌜ LineIs (ascii "refused" ++ spaced (brokenNumbers broken) ++ newline) r ⌝ }
+{
+    match broken {
+        Broken::Rule(number) => refused_by(number),
+        Broken::Record(number, which) => refused_at(number, which),
+    }
+}
+
+fn refused_by(number: u8) -> Line
     ensures { λ r. ⌜ LineIs (tagged "refused " number ++ newline) r ⌝ }
 {
     let to_number = with_short(empty(), b"refused ", number as u16);
     with_word(to_number, b"\n")
+}
+
+fn refused_at(number: u8, which: u16) -> Line
+    ensures { λ r. ⌜ LineIs (tagged "refused " number ++ tagged " " which ++ newline) r ⌝ }
+{
+    let to_number = with_short(empty(), b"refused ", number as u16);
+    let to_record = with_short(to_number, b" ", which);
+    with_word(to_record, b"\n")
 }
 
 fn entry_line(
