@@ -22,7 +22,7 @@ use Rattle.kusillaqe.proofs.kusillaqe_has_circle.Reads as has-circle-re
 use Rattle.kusillaqe.proofs.kusillaqe_root_graph.Kinds as root-graph-kinds
 use Rattle.kusillaqe.proofs.kusillaqe_root_graph.Reads as root-graph-reads
 
-pub one-reading-kusillaqe-check : OneResult 1 check-kinds.ps check-kinds.r check-reads.Post
+pub one-reading-kusillaqe-check : OneOutcome 2 check-kinds.ps check-kinds.r check-reads.Post (λ κs r s. now (s .1 .0))
 one-reading-kusillaqe-check κs a x y s t p q = p ∙ sym q
 
 -- the twelve numbers, and every lent slice afterwards; the parameters at exit: table, limit, symbols, graphs, productions, kids, report

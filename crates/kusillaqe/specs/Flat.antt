@@ -1,17 +1,26 @@
--- A report as twelve numbers, and the promise of the exported test. Assumes nothing.
+-- What the check says as two numbers, a report as twelve, and the promise of the exported test. Assumes nothing.
 use mathlib.Core.List.{List, [], _∷_}
 use mathlib.Core.Path.{_≡_}
 use Prim.Native.Nat.{ℕ}
 use lib.ListN.{getD}
+use Rattle.grammar.specs.declared.Broken.the-variants.{Rule, Record}
+use Rattle.grammar.specs.declared.Checked.{Checked}
+use Rattle.grammar.specs.declared.Checked.the-variants.{Good, Refused}
 use Rattle.rules.specs.declared.Report.{Report}
-use Rattle.rules.specs.Passes.{numberOf, productionOf}
+use Rattle.rules.specs.Passes.{numberOf, noValue, valueOf}
 use Rattle.passes.specs.Slices.{Slices, Tested}
 
--- the answer, the root's production, closures, entries and passes, and the root's seven entry numbers
+-- the number of the rule that is broken, 0 where none is, and the first bad record
+abbrev pub flatCheck : Checked → List ℕ
+flatCheck Good = 0 ∷ noValue ∷ []
+flatCheck (Refused (Rule k)) = k ∷ noValue ∷ []
+flatCheck (Refused (Record k i)) = k ∷ i ∷ []
+
+-- the answer's number and its value (the root's production, or the first bad record), closures, entries and passes, and the root's seven entry numbers
 abbrev pub flat : Report → List ℕ
 flat r =
     numberOf (r .answer)
-    ∷ productionOf (r .answer)
+    ∷ valueOf (r .answer)
     ∷ r .closures
     ∷ r .entries
     ∷ r .passes

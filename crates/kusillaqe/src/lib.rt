@@ -6,24 +6,16 @@ ghost use Rattle.grammar.specs.Table.{attributes, edgesIn};
 ghost use Rattle.grammar.specs.Refusal.{refusal};
 ghost use Rattle.graph.specs.Rows.{own, placed, hasCircle, rootGraph};
 ghost use Rattle.graph.specs.Parts.{closedFirst};
-ghost use Rattle.rules.specs.Passes.{numberOf, productionOf};
+ghost use Rattle.rules.specs.Passes.{numberOf, valueOf};
 ghost use Rattle.passes.specs.Slices.{atEntry, atExit};
-ghost use Rattle.kusillaqe.specs.Flat.{flat, TestedFlat};
+ghost use Rattle.kusillaqe.specs.Flat.{flat, flatCheck, TestedFlat};
+use grammar::Broken;
 use grammar::Checked;
 use rules::Answer;
 use rules::Report;
 
-// The check of a table: 0, or the number of its refusal.
-#[no_mangle]
-pub extern "C" fn kusillaqe_check(table: &[u8]) -> u8
-    ensures { λ r. ⌜ r ≡ refusal (now (table .entry)) ⌝ }
-{
-    let checked = checks::check(table);
-    match checked {
-        Checked::Good => 0,
-        Checked::Refused(number) => number,
-    }
-}
+// Stands where there is no production and no record.
+const NONE: u32 = 4294967295;
 
 fn wide(x: u16) -> u32
     ensures { λ r. ⌜ r ≡ x ⌝ }
@@ -31,27 +23,55 @@ fn wide(x: u16) -> u32
     x as u32
 }
 
-fn kind_of(answer: Answer) -> u32
+fn flat_check(checked: Checked) -> [u32; 2]
+    ensures { λ r. ⌜ r ≡ flatCheck checked ⌝ }
+{
+    match checked {
+        Checked::Good => [0, NONE],
+        Checked::Refused(broken) => match broken {
+            Broken::Rule(k) => [k as u32, NONE],
+            Broken::Record(k, i) => [k as u32, wide(i)],
+        },
+    }
+}
+
+// The check of a table: the number of the rule that it breaks, 0 where it breaks none, and the first bad record.
+#[no_mangle]
+pub extern "C" fn kusillaqe_check(table: &[u8], broken: &mut [u32; 2])
+    ensures { λ _. ⌜ now (broken .exit) ≡ flatCheck (refusal (now (table .entry))) ⌝ }
+{
+    let checked = checks::check(table);
+    let out = flat_check(checked);
+    *broken = out;
+}
+
+fn number_of(answer: Answer) -> u32
     ensures { λ r. ⌜ r ≡ numberOf answer ⌝ }
 {
     match answer {
         Answer::Noncircular => 0,
         Answer::Circular(_) => 255,
-        Answer::Refused(k) => k as u32,
+        Answer::Refused(broken) => match broken {
+            Broken::Rule(k) => k as u32,
+            Broken::Record(k, _) => k as u32,
+        },
         Answer::OutOfSteps => 8,
         Answer::OutOfRoom => 9,
     }
 }
 
-fn root_of(answer: Answer) -> u32
-    ensures { λ r. ⌜ r ≡ productionOf answer ⌝ }
+fn value_of(answer: Answer) -> u32
+    ensures { λ r. ⌜ r ≡ valueOf answer ⌝ }
 {
     match answer {
-        Answer::Noncircular => 0,
+        Answer::Noncircular => NONE,
         Answer::Circular(p) => wide(p),
-        Answer::Refused(_) => 0,
-        Answer::OutOfSteps => 0,
-        Answer::OutOfRoom => 0,
+        Answer::Refused(broken) => match broken {
+            Broken::Rule(_) => NONE,
+            Broken::Record(_, i) => wide(i),
+        },
+        Answer::OutOfSteps => NONE,
+        Answer::OutOfRoom => NONE,
     }
 }
 
@@ -61,8 +81,8 @@ fn flat_of(r: Report) -> [u32; 12]
     let answer = r.answer;
     let kids = r.root;
     [
-        kind_of(answer),
-        root_of(answer),
+        number_of(answer),
+        value_of(answer),
         r.closures,
         wide(r.entries),
         wide(r.passes),

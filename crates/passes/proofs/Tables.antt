@@ -15,6 +15,7 @@ use Rattle.grammar.specs.declared.Production.{Production}
 use Rattle.grammar.specs.Grammar.{Grammar, noSymbol, noProduction, symbol, production, symbolAt, edgesOf}
 use Rattle.grammar.specs.Table.{P, edgesIn, grammarOf}
 use Rattle.grammar.specs.Rules.{NodeThere}
+use Rattle.grammar.specs.declared.Checked.the-variants.{Good}
 use Rattle.grammar.specs.Refusal.{refusal}
 use Rattle.grammar.specs.Reading.{runOf}
 use Rattle.grammar.specs.Valid.{Valid}
@@ -36,7 +37,7 @@ use Rattle.passes.proofs.Systems.{Agrees, turn-follows}
 
 -- ---- a table that is not refused
 
-module _ (bs : List ℕ) (good : refusal bs ≡ 0) where
+module _ (bs : List ℕ) (good : refusal bs ≡ Good) where
   abbrev g : Grammar
   g = grammarOf bs
 

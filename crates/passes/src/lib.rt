@@ -3,6 +3,7 @@ ghost use mathlib.Core.Path.{_≡_};
 ghost use Prim.Native.Nat.{_-_, _≤_, _<_};
 ghost use lib.ListN.{length, set};
 ghost use Rattle.numbers.specs.Lists.{upFrom};
+ghost use Rattle.grammar.specs.declared.Checked.the-variants.{Good};
 ghost use Rattle.grammar.specs.Table.{P};
 ghost use Rattle.grammar.specs.Refusal.{refusal};
 ghost use Rattle.rules.specs.Passes as stated;
@@ -119,7 +120,7 @@ fn all_occur(symbols: &[u16], task: Task) -> bool
 
 // The task of a turn of the production `number`.
 fn task_of(table: &[u8], number: usize, room: usize, first: usize) -> Task
-    requires { ⌜ (refusal (now table) ≡ 0) × (number < P (now table)) ⌝ }
+    requires { ⌜ (refusal (now table) ≡ Good) × (number < P (now table)) ⌝ }
     ensures { λ r. ⌜ r ≡ taskOf (now (table .entry)) number room first ⌝ }
 {
     let production = tables::production_of(table, number);
@@ -137,7 +138,7 @@ fn task_of(table: &[u8], number: usize, room: usize, first: usize) -> Task
 
 // The own rows of the production `number`.
 fn own_of(table: &[u8], number: usize) -> [u64; NODES]
-    requires { ⌜ (refusal (now table) ≡ 0) × (number < P (now table)) ⌝ }
+    requires { ⌜ (refusal (now table) ≡ Good) × (number < P (now table)) ⌝ }
     ensures { λ r. ⌜ r ≡ ownOf (now (table .entry)) number ⌝ }
 {
     let run = tables::run_of(table, number);
@@ -155,7 +156,7 @@ fn turn(
     room: usize,
     run: Run,
 ) -> Run
-    requires { ⌜ (refusal (now table) ≡ 0) × (number < P (now table)) × Roomy room (lent symbols graphs productions kids) run × (run .course ≡ Course.Going) ⌝ }
+    requires { ⌜ (refusal (now table) ≡ Good) × (number < P (now table)) × Roomy room (lent symbols graphs productions kids) run × (run .course ≡ Course.Going) ⌝ }
     ensures { λ r. ⌜ Follows room (λ limit. stated.turn (systemIn (now (table .entry))) limit room number)
         (atEntry symbols graphs productions kids) run
         (atExit symbols graphs productions kids) r ⌝ }
@@ -189,7 +190,7 @@ fn pass(
     room: usize,
     run: Run,
 ) -> Run
-    requires { ⌜ (refusal (now table) ≡ 0) × (count ≡ P (now table)) × Roomy room (lent symbols graphs productions kids) run ⌝ }
+    requires { ⌜ (refusal (now table) ≡ Good) × (count ≡ P (now table)) × Roomy room (lent symbols graphs productions kids) run ⌝ }
     ensures { λ r. ⌜ Follows room (λ limit. stated.pass (systemIn (now (table .entry))) limit room (upFrom 0 count))
         (atEntry symbols graphs productions kids) run
         (atExit symbols graphs productions kids) r ⌝ }
@@ -230,7 +231,7 @@ fn passes(
     room: usize,
     limit: u32,
 ) -> Report
-    requires { ⌜ (refusal (now table) ≡ 0) × (count ≡ P (now table)) × (room ≡ roomOf (lent symbols graphs productions kids)) ⌝ }
+    requires { ⌜ (refusal (now table) ≡ Good) × (count ≡ P (now table)) × (room ≡ roomOf (lent symbols graphs productions kids)) ⌝ }
     ensures { λ r. ⌜ Tells (stated.passes (systemIn (now (table .entry))) limit room (upFrom 0 count))
         (atEntry symbols graphs productions kids) r
         (atExit symbols graphs productions kids) ⌝ }
@@ -266,9 +267,9 @@ pub fn test(
         (atExit symbols graphs productions kids) ⌝ }
 {
     let checked = checks::check(table);
-    if let Checked::Refused(number) = checked {
+    if let Checked::Refused(broken) = checked {
         return Report {
-            answer: Answer::Refused(number),
+            answer: Answer::Refused(broken),
             closures: 0,
             entries: 0,
             passes: 0,

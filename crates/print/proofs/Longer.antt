@@ -9,12 +9,15 @@ use borrow.Author.Tests.{le-leb}
 use lib.ListN.{length, take}
 use lib.Seq.{length-take-le, take-all, getD-take}
 use Rattle.numbers.proofs.Decides.{not-so}
+use Rattle.grammar.specs.declared.Broken.the-variants.{Rule}
+use Rattle.grammar.specs.declared.Checked.{Checked}
+use Rattle.grammar.specs.declared.Checked.the-variants.{Refused as Bad}
 use Rattle.grammar.specs.Refusal.{countsOk, offsetsOk, refusal}
 use Rattle.grammar.proofs.Decided.{counts-decide, offsets-decide}
 use Rattle.rules.specs.declared.Answer.the-variants.{Refused}
 use Rattle.rules.specs.Passes.{outcome, noRoot, empty}
 use Rattle.rules.specs.Test.{test}
-use Rattle.passes.proofs.Testing.{test-refusal}
+use Rattle.passes.proofs.Testing.{test-refused}
 use Rattle.texts.specs.Lines.{rest, printed}
 use Rattle.print.specs.Texts.{kidsIn}
 
@@ -23,13 +26,10 @@ unfolding countsOk
 same-counts n bs h =
     rw (getD-take n bs 0 0 (omega arith), getD-take n bs 1 0 (omega arith), getD-take n bs 2 0 (omega arith), getD-take n bs 3 0 (omega arith), getD-take n bs 4 0 (omega arith), getD-take n bs 5 0 (omega arith), getD-take n bs 6 0 (omega arith), getD-take n bs 7 0 (omega arith))
 
-by-counts : (counts offsets : Bool) (k : ℕ) → (counts ≡ true → offsets ≡ false) → cond counts (cond offsets k 3) 2 ≡ cond counts 3 2
-by-counts true offsets k h = rw (h refl)
-by-counts false offsets k h = refl
-
-two-or-three : (b : Bool) → _≡_ {A = ℕ} (cond b 3 2) 0 → ⊥
-two-or-three true h = omega arith
-two-or-three false h = omega arith
+by-counts : (counts offsets : Bool) (c : Checked) → (counts ≡ true → offsets ≡ false)
+    → cond counts (cond offsets c (Bad (Rule 3))) (Bad (Rule 2)) ≡ Bad (cond counts (Rule 3) (Rule 2))
+by-counts true offsets c h = rw (h refl)
+by-counts false offsets c h = refl
 
 -- the counts decide
 module _ (bs : List ℕ) (long : 58904 < length bs) where
@@ -38,15 +38,13 @@ module _ (bs : List ℕ) (long : 58904 < length bs) where
       let counts = counts-decide bs .so c in
       not-so (offsets-decide bs) (λ offsets. omega arith)
 
-  refused-by : refusal bs ≡ cond (countsOk bs) 3 2
+  refused-by : refusal bs ≡ Bad (cond (countsOk bs) (Rule 3) (Rule 2))
   unfolding refusal
   refused-by = rw (le-leb 24 (length bs) (omega arith)) (by-counts (countsOk bs) (offsetsOk bs) _ no-offsets)
 
   -- 2 or 3
-  refused : (limit room : ℕ) → test bs limit room ≡ outcome (Refused (cond (countsOk bs) 3 2)) noRoot empty 0
-  refused limit room =
-      test-refusal bs limit room (λ e. two-or-three (countsOk bs) (sym refused-by ∙ e))
-      ∙ ap (λ (n : ℕ). outcome (Refused n) noRoot empty 0) refused-by
+  refused : (limit room : ℕ) → test bs limit room ≡ outcome (Refused (cond (countsOk bs) (Rule 3) (Rule 2))) noRoot empty 0
+  refused limit room = test-refused bs limit room _ refused-by
 
 -- What is printed of the first 58,905 bytes is what is printed of the whole input.
 pub whole-input : (bs : List ℕ) (limit room : ℕ)

@@ -6,6 +6,8 @@ use native.Mathlib.Omega.{arith}
 use lib.ListN.{length, drop, List·getD-append}
 use lib.Seq.{getD-append-add, getD-drop}
 use Rattle.numbers.specs.Lists.{written}
+use Rattle.grammar.specs.declared.Broken.{Broken}
+use Rattle.grammar.specs.declared.Checked.the-variants.{Refused as Bad}
 use Rattle.grammar.specs.Refusal.{refusal}
 use Rattle.rules.specs.declared.Entry.{Entry}
 use Rattle.rules.specs.declared.Report.{Report}
@@ -13,7 +15,7 @@ use Rattle.rules.specs.Passes.{Outcome, noEntry, entry}
 use Rattle.rules.specs.Test as rules
 use Rattle.records.specs.Records.{roomOf, Tested}
 use Rattle.rules.proofs.Stored.{counted-test}
-use Rattle.passes.proofs.Testing.{test-refusal}
+use Rattle.passes.proofs.Testing.{test-refused}
 use Rattle.rows.proofs.Writing.{length-written}
 
 module _ (bs : List ℕ) (limit : ℕ) (before : List Entry) (r : Report) (after : List Entry) (tested : Tested bs limit before r after) where
@@ -45,5 +47,5 @@ module _ (bs : List ℕ) (limit : ℕ) (before : List Entry) (r : Report) (after
   beyond-before i l = rest-before i (omega (arith, fits))
 
   -- on a refusal all is as before
-  pub refused-before : (refusal bs ≡ 0 → ⊥) → after ≡ before
-  refused-before bad = tested .entries ∙ ap (λ (o : Outcome). written (o .entries) before) (test-refusal bs limit (roomOf before) bad)
+  pub refused-before : (b : Broken) → refusal bs ≡ Bad b → after ≡ before
+  refused-before b bad = tested .entries ∙ ap (λ (o : Outcome). written (o .entries) before) (test-refused bs limit (roomOf before) b bad)

@@ -3,7 +3,7 @@ use mathlib.Core.Path.{sym, ap, _∙_}
 use borrow.Author.Needs.{needs}
 use Rattle.grammar.specs.declared.Header.{Header}
 use Rattle.passes.specs.Slices.{slices}
-use Rattle.passes.proofs.Testing.{taken, test-taken, test-refused, tells-refused, tells-same}
+use Rattle.passes.proofs.Testing.{test-taken, test-refused, tells-refused, tells-same}
 use Rattle.passes.proofs.test.Statement.{statement}
 use Rattle.passes.proofs.test.Tie as tie
 
@@ -32,7 +32,7 @@ wide-requires c κs = search needs
 passes-requires : tie.Need-passes-requires
 passes-requires c κs =
     let s = c .before .before .before .before .before .before .before .before .before .before .before .before .before .before .before in
-    (taken (s .args .table .now) (sym (c .before .before .before .before .before .before .before .before .before .check .ensures) ∙ c .before .before .before .before .before .before .before .enum-told .given .1), c .before .before .before .before .wide .ensures ∙ ap (λ (h : Header). h .productions) (c .before .before .before .before .before .header-of .ensures), c .before .before .before .before .before .before .room-of .ensures)
+    (sym (c .before .before .before .before .before .before .before .before .before .check .ensures) ∙ c .before .before .before .before .before .before .before .enum-told .given .1, c .before .before .before .before .wide .ensures ∙ ap (λ (h : Header). h .productions) (c .before .before .before .before .before .header-of .ensures), c .before .before .before .before .before .before .room-of .ensures)
 
 same-length : tie.Need-same-length
 same-length c = search needs
