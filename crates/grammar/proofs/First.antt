@@ -1,6 +1,8 @@
 -- The first record that breaks a rule decides, whatever the records and their rules are. Assumes nothing.
 use mathlib.Core.Path.{_≡_, refl, sym, ap, subst, _∙_}
 use Prim.Native.Nat.{ℕ, zero, suc, _+_, _-_, _≤_, _<_}
+use native.Mathlib.Nat.{sub-zero}
+use native.Mathlib.Numerals.{add-one}
 use native.Mathlib.Decide.{decLt}
 use native.Mathlib.Omega.{arith}
 use Rattle.grammar.specs.declared.Checked.{Checked}
@@ -91,3 +93,30 @@ module _ (rule : ℕ → ℕ) (Ok : ℕ → Type 0) (Bad : ℕ → ℕ → Type 
 
     pub first-told : FirstTold Ok Bad n (firstBad rule 0 n)
     first-told = from n 0 (omega arith) (λ j l. absurd (omega arith))
+
+-- ---- what is left from the record i on, of n
+module _ (rule : ℕ → ℕ) (n i : ℕ) where
+  abbrev pub left : Checked
+  left = firstBad rule i (n - i)
+
+  module _ (l : i < n) where
+    one-more : firstBad rule i (n - i) ≡ refusedAt (rule i) i (firstBad rule (i + 1) (n - (i + 1)))
+    unfolding firstBad
+    one-more =
+        let e : n - i ≡ suc (n - (i + 1)) = omega arith in
+        ap (firstBad rule i) e ∙ ap (λ (j : ℕ). refusedAt (rule i) i (firstBad rule j (n - (i + 1)))) (sym (add-one i))
+
+    pub first-goes : rule i ≡ 0 → firstBad rule (i + 1) (n - (i + 1)) ≡ firstBad rule i (n - i)
+    first-goes e = sym (one-more ∙ at-none i _ (rule i) e)
+
+    pub first-stops : (k : ℕ) → rule i ≡ k → 0 < k → Refused (Record k i) ≡ firstBad rule i (n - i)
+    first-stops k e h = sym (one-more ∙ ap (λ (r : ℕ). refusedAt r i (firstBad rule (i + 1) (n - (i + 1)))) e ∙ at-some i _ k h)
+
+  pub first-ends : n ≤ i → Good ≡ firstBad rule i (n - i)
+  unfolding firstBad
+  first-ends l =
+      let e : n - i ≡ 0 = omega arith in
+      ap (firstBad rule i) (sym e)
+
+pub first-begins : (rule : ℕ → ℕ) (n : ℕ) → firstBad rule 0 (n - 0) ≡ firstBad rule 0 n
+first-begins rule n = ap (firstBad rule 0) (sub-zero n)

@@ -3,6 +3,7 @@ pub mod Lookups
 pub mod Seeking
 pub mod Occurrences
 pub mod First
+pub mod Handing
 pub mod Sequence
 pub mod Decided
 pub mod Refused

@@ -1,14 +1,16 @@
 -- What stands at a number of the grammar that some bytes say, and how many records it has. Assumes nothing.
-use mathlib.Core.Path.{_≡_, _∙_}
+use mathlib.Core.Path.{_≡_, sym, ap, _∙_}
 use mathlib.Core.List.{List, [], _∷_}
 use Prim.Native.Nat.{ℕ, _+_, _*_, _≤_, _<_}
 use native.Mathlib.Nat.{add-zero, add-assoc}
+use native.Mathlib.Decide.{decLt}
 use native.Mathlib.Omega.{arith}
-use lib.ListN.{length, length-map}
+use lib.ListN.{length, getD, length-map, length-replicate}
 use Rattle.numbers.specs.Number.{le2}
 use Rattle.numbers.specs.Lists.{upFrom}
 use Rattle.numbers.proofs.Bytes.{byte-past, le2-past}
 use Rattle.numbers.proofs.Ranges.{length-upFrom, at-below, at-past}
+use Rattle.grammar.specs.declared.Production.{Production}
 use Rattle.grammar.specs.Grammar.{symbol, production, noSymbol, noProduction}
 use Rattle.grammar.specs.Table.{N, P, E, atSymbols, atProductions, atEdges, symbolIn, productionIn, edgeIn, grammarOf}
 use Rattle.grammar.specs.Rules.{edge, noEdge}
@@ -71,6 +73,33 @@ module _ (bs : List ℕ) where
       ∷ []
   unfolding productionIn upFrom
   slots-are i = simp (add-zero, add-assoc)
+
+-- every production has seven slots, also one that is not there
+pub slots-seven : (bs : List ℕ) (p : ℕ) → length (production (grammarOf bs) p .slots) ≡ 7
+slots-seven bs p = go (decLt p (P bs))
+  where
+    go : Dec (p < P bs) → length (production (grammarOf bs) p .slots) ≡ 7
+    go (yes l) = rw (production-there bs p l, slots-are)
+    go (no f) = rw (production-none bs p (omega arith), length-replicate)
+
+-- the fields of a production, each read by itself
+module _ (bs : List ℕ) (p : ℕ) (h : p < P bs) where
+  abbrev at : ℕ
+  at = atProductions bs + 18 * p
+
+  pub left-read : le2 bs (atProductions bs + 18 * p) ≡ production (grammarOf bs) p .left
+  unfolding productionIn
+  left-read = ap (λ (q : Production). q .left) (sym (production-there bs p h))
+
+  pub count-read : le2 bs (atProductions bs + 18 * p + 2) ≡ production (grammarOf bs) p .n
+  unfolding productionIn
+  count-read = ap (λ (q : Production). q .n) (sym (production-there bs p h))
+
+  pub slot-read : (k : ℕ) → k < 7 → le2 bs (atProductions bs + 18 * p + 4 + 2 * k) ≡ getD (production (grammarOf bs) p .slots) k 0
+  unfolding productionIn
+  slot-read k l =
+      sym (at-below (λ j. le2 bs (at + 4 + 2 * j)) 0 7 k l)
+      ∙ ap (λ (q : Production). getD (q .slots) k 0) (sym (production-there bs p h))
 
 pub slots-by :
     {a b c d e f g a′ b′ c′ d′ e′ f′ g′ : ℕ}

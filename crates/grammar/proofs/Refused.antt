@@ -16,9 +16,10 @@ use Rattle.grammar.specs.Grammar.{Grammar, symbol, production}
 use Rattle.grammar.specs.Table.{N, P, E, widthOf, grammarOf}
 use Rattle.grammar.specs.Rules.{CountsInRange, OffsetsRight, ProductionThere, OccurrencesThere, AttributesThere, TargetAllowed, AboveBefore, AllGood, FirstBad, SymbolGood, ProductionGood, EdgeGood, EdgeBreaks, no-production, no-occurrence, no-attribute, not-allowed, not-above, BeforeRecords, BeforeEdges, Breaks, header-short, counts, offsets, symbol-bad, production-bad, edge-bad, key, edge}
 use Rattle.grammar.specs.Refusal.{countsOk, offsetsOk, symbolOk, productionOk, occurrencesOk, attributesOk, targetOk, inOrder, orRule, edgeBreaks, edgeRule, firstBad, andCheck, refusal}
+use Rattle.grammar.specs.Steps.{symbolsCheck, productionsCheck, edgesCheck}
 use Rattle.grammar.specs.Valid.{RefusalExactly}
 use Rattle.grammar.proofs.First.{RuleSaid, fine, broken, FirstTold, all-good, one-bad, first-none, first-is, first-told}
-use Rattle.grammar.proofs.Sequence.{symbolsCheck, productionsCheck, edgesCheck, refusal-one, refusal-two, refusal-three, refusal-records, and-good}
+use Rattle.grammar.proofs.Sequence.{refusal-one, refusal-two, refusal-three, refusal-records, and-good}
 use Rattle.grammar.proofs.Decided.{counts-decide, offsets-decide, symbol-decides, production-decides, there-decides, occurrences-decide, attributes-decide, allowed-decides, good-edge, occurrences, attributes-there}
 
 -- ---- a rule by its test

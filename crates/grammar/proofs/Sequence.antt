@@ -5,22 +5,14 @@ use mathlib.Core.List.{List}
 use Prim.Native.Nat.{ℕ, _≤_, _<_}
 use borrow.Author.Tests.{lt-leb, le-leb}
 use lib.ListN.{length}
+use Rattle.grammar.specs.declared.Broken.{Broken}
 use Rattle.grammar.specs.declared.Checked.{Checked}
 use Rattle.grammar.specs.declared.Checked.the-variants.{Good, Refused}
 use Rattle.grammar.specs.declared.Broken.the-variants.{Rule}
-use Rattle.grammar.specs.Table.{N, P, E, grammarOf}
-use Rattle.grammar.specs.Refusal.{countsOk, offsetsOk, symbolRule, productionRule, edgeRule, firstBad, andCheck, refusal}
+use Rattle.grammar.specs.Refusal.{countsOk, offsetsOk, andCheck, refusal}
+use Rattle.grammar.specs.Steps.{symbolsCheck, productionsCheck, edgesCheck}
 
 module _ (bs : List ℕ) where
-  abbrev pub symbolsCheck : Checked
-  symbolsCheck = firstBad (symbolRule bs) 0 (N bs)
-
-  abbrev pub productionsCheck : Checked
-  productionsCheck = firstBad (productionRule bs) 0 (P bs)
-
-  abbrev pub edgesCheck : Checked
-  edgesCheck = firstBad (edgeRule (grammarOf bs)) 0 (E bs)
-
   pub refusal-one : length bs < 24 → refusal bs ≡ Refused (Rule 1)
   unfolding refusal
   refusal-one h = simp (lt-leb _ _ h)
@@ -35,7 +27,7 @@ module _ (bs : List ℕ) where
       unfolding refusal
       refusal-three o = simp (le-leb _ _ h, c, o)
 
-      pub refusal-records : offsetsOk bs ≡ true → refusal bs ≡ andCheck symbolsCheck (andCheck productionsCheck edgesCheck)
+      pub refusal-records : offsetsOk bs ≡ true → refusal bs ≡ andCheck (symbolsCheck bs) (andCheck (productionsCheck bs) (edgesCheck bs))
       unfolding refusal
       refusal-records o = simp (le-leb _ _ h, c, o)
 
@@ -43,3 +35,7 @@ module _ (bs : List ℕ) where
 pub and-good : {a : Checked} (b : Checked) → a ≡ Good → andCheck a b ≡ b
 unfolding andCheck
 and-good b e = rw e
+
+pub and-bad : {a : Checked} (b : Broken) (next : Checked) → a ≡ Refused b → a ≡ andCheck a next
+unfolding andCheck
+and-bad b next e = rw e

@@ -1,5 +1,6 @@
 -- What the parts of the check answer. What is promised of the whole check does not speak of it. Assumes nothing.
 use mathlib.Core.Bool.{Bool, true, false}
+use mathlib.Core.List.{List}
 use Prim.Native.Nat.{ℕ}
 use lib.Dec.{ltb}
 use lib.ListN.{length}
@@ -10,7 +11,8 @@ use Rattle.grammar.specs.declared.Broken.{Broken}
 use Rattle.grammar.specs.declared.Checked.{Checked}
 use Rattle.grammar.specs.declared.Read.{Read}
 use Rattle.grammar.specs.Grammar.{Grammar}
-use Rattle.grammar.specs.Refusal.{symbolOk, productionOk, occurrencesOk, attributesOk, targetOk, inOrder}
+use Rattle.grammar.specs.Table.{N, P, E, grammarOf}
+use Rattle.grammar.specs.Refusal.{symbolOk, productionOk, occurrencesOk, attributesOk, targetOk, inOrder, symbolRule, productionRule, edgeRule, firstBad}
 
 -- what was read, by its test, or the refusal k
 unfoldable pub orRefused : Bool → Read → ℕ → Read
@@ -42,3 +44,14 @@ edgeRead g i before e =
     12)
     11)
     10
+
+-- ---- the three tables of records, each by its first bad one
+
+abbrev pub symbolsCheck : List ℕ → Checked
+symbolsCheck bs = firstBad (symbolRule bs) 0 (N bs)
+
+abbrev pub productionsCheck : List ℕ → Checked
+productionsCheck bs = firstBad (productionRule bs) 0 (P bs)
+
+abbrev pub edgesCheck : List ℕ → Checked
+edgesCheck bs = firstBad (edgeRule (grammarOf bs)) 0 (E bs)

@@ -29,7 +29,7 @@ use Rattle.steps.specs.declared.Run.{Run}
 use Rattle.steps.specs.declared.Task.{Task}
 use Rattle.rules.specs.Passes.{turn}
 use Rattle.rules.specs.Test.{systemOf, systemIn}
-use Rattle.rules.proofs.Stored.{slots-seven}
+use Rattle.grammar.proofs.Lookups.{slots-seven}
 use Rattle.passes.specs.Slices.{Slices, entriesTo}
 use Rattle.passes.specs.Follow.{Follows, Roomy, InTurn, systemBy, taskOf, ownOf, combosFrom}
 use Rattle.passes.proofs.Levels.{over}

@@ -3,23 +3,24 @@ use numbers::four_at;
 ghost use mathlib.Core.Path.{_≡_};
 ghost use Prim.Native.Nat.{_≤_};
 ghost use lib.Dec.{ltb};
-ghost use lib.ListN.{take, drop};
+ghost use lib.ListN.{length, take, drop};
 ghost use Rattle.numbers.specs.Number.{bit};
 ghost use Rattle.numbers.specs.Lists.{every, below};
-ghost use Rattle.grammar.specs.Grammar.{symbol, production, symbolAt};
+ghost use Rattle.grammar.specs.Grammar.{symbol, production};
 ghost use Rattle.grammar.specs.Table.{N, attributes, widthOf, grammarOf};
-ghost use Rattle.grammar.specs.Rules.{key};
+ghost use Rattle.grammar.specs.Rules.{symbolOf, key};
 ghost use Rattle.grammar.specs.Refusal.{
   countsOk,
   offsetsOk,
   symbolOk,
   productionOk,
-  nodeOk,
-  allowed,
-  edgeOk,
+  occurrencesOk,
+  attributesOk,
+  targetOk,
+  inOrder,
 };
 ghost use Rattle.grammar.specs.Reading.{edgeAt};
-ghost use Rattle.grammar.specs.Steps.{symbolRead, productionRead, edgeRead, inOrder};
+ghost use Rattle.grammar.specs.Steps.{symbolRead, productionRead, edgeRead};
 use grammar::ATTRIBUTES;
 use grammar::Edge;
 use grammar::Head;
@@ -141,38 +142,43 @@ pub fn read_production(table: &[u8], p: usize) -> Read
     }
 }
 
-// The number of the symbol at an occurrence, and 0 where there is none.
-fn symbol_at(p: Production, occurrence: u8) -> u16
-    ensures { λ r. ⌜ r ≡ symbolAt p occurrence ⌝ }
+// The symbol at an occurrence of the edge's production.
+fn symbol_of(table: &[u8], e: Edge, x: Node) -> Symbol
+    ensures { λ r. ⌜ r ≡ symbolOf (grammarOf (now (table .entry))) e x ⌝ }
 {
-    if occurrence == 0 {
-        return p.left;
-    }
-    let k = (occurrence - 1) as usize;
-    if p.n as usize <= k {
-        return 0;
-    }
-    if SLOTS <= k {
-        return 0;
-    }
-    let slots = p.slots;
-    slots[k]
+    let s = tables::symbol_at(table, e.production as usize, x.occurrence);
+    tables::symbol_of(table, s as usize)
 }
 
-fn symbol_there(table: &[u8], p: Production, occurrence: u8) -> Symbol
-    ensures { λ r. ⌜ r ≡ symbol (grammarOf (now (table .entry))) (symbolAt p occurrence) ⌝ }
+// Rule 10: the production is there.
+fn production_there(table: &[u8], e: Edge) -> bool
+    ensures { λ r. ⌜ r ≡ ltb (e .production) (length (grammarOf (now (table .entry)) .productions)) ⌝ }
 {
-    tables::symbol_of(table, symbol_at(p, occurrence) as usize)
+    let h = tables::header_of(table);
+    e.production < h.productions
 }
 
-fn node_ok(table: &[u8], p: Production, x: Node) -> bool
-    ensures { λ r. ⌜ r ≡ nodeOk (grammarOf (now (table .entry))) p x ⌝ }
+// Rule 11: both occurrences are in range.
+fn occurrences_ok(table: &[u8], e: Edge) -> bool
+    ensures { λ r. ⌜ r ≡ occurrencesOk (grammarOf (now (table .entry))) e ⌝ }
 {
-    if p.n < x.occurrence as u16 {
+    let n = tables::rights_of(table, e.production as usize);
+    if n < e.source.occurrence as u16 {
         return false;
     }
-    let s = symbol_there(table, p, x.occurrence);
-    x.attribute < s.count
+    e.target.occurrence as u16 <= n
+}
+
+// Rule 12: both attributes are in range.
+fn attributes_ok(table: &[u8], e: Edge) -> bool
+    ensures { λ r. ⌜ r ≡ attributesOk (grammarOf (now (table .entry))) e ⌝ }
+{
+    let source = symbol_of(table, e, e.source);
+    if source.count <= e.source.attribute {
+        return false;
+    }
+    let target = symbol_of(table, e, e.target);
+    e.target.attribute < target.count
 }
 
 // 1 where the attribute is inherited, and 0 where it is not.
@@ -185,30 +191,17 @@ fn inherited(s: Symbol, attribute: u8) -> u16
     (s.mask >> attribute) % 2
 }
 
-fn target_ok(table: &[u8], p: Production, x: Node) -> bool
-    ensures { λ r. ⌜ r ≡ allowed (x .occurrence) (bit (x .attribute) (symbol (grammarOf (now (table .entry))) (symbolAt p (x .occurrence)) .mask)) ⌝ }
+// Rule 13: the target is allowed.
+fn target_ok(table: &[u8], e: Edge) -> bool
+    ensures { λ r. ⌜ r ≡ targetOk (grammarOf (now (table .entry))) e ⌝ }
 {
-    let i = inherited(symbol_there(table, p, x.occurrence), x.attribute);
-    if x.occurrence == 0 { i == 0 } else { i == 1 }
-}
-
-fn edge_ok(table: &[u8], e: Edge) -> bool
-    ensures { λ r. ⌜ r ≡ edgeOk (grammarOf (now (table .entry))) (production (grammarOf (now (table .entry))) (e .production)) e ⌝ }
-{
-    let h = tables::header_of(table);
-    if h.productions <= e.production {
-        return false;
+    let target = symbol_of(table, e, e.target);
+    let i = inherited(target, e.target.attribute);
+    if e.target.occurrence == 0 {
+        i == 0
+    } else {
+        i == 1
     }
-    let p = tables::production_of(table, e.production as usize);
-    let source = e.source;
-    if !node_ok(table, p, source) {
-        return false;
-    }
-    let target = e.target;
-    if !node_ok(table, p, target) {
-        return false;
-    }
-    target_ok(table, p, target)
 }
 
 // By production, then by the other four fields in their order.
@@ -239,13 +232,22 @@ fn in_order(i: usize, before: Edge, e: Edge) -> bool
     is_below(before, e)
 }
 
-// The edge i, after the edge before it, by rules 6 and 7.
+// The edge i, after the edge before it, by rules 10 to 13 in this order, then 7.
 pub fn read_edge(table: &[u8], i: usize, before: Edge) -> Read
-    ensures { λ r. ⌜ r ≡ edgeRead (now (table .entry)) i before (edgeAt (now (table .entry)) i) ⌝ }
+    ensures { λ r. ⌜ r ≡ edgeRead (grammarOf (now (table .entry))) i before (edgeAt (now (table .entry)) i) ⌝ }
 {
     let e = tables::edge_at(table, i);
-    if !edge_ok(table, e) {
-        return Read::Refused(6);
+    if !production_there(table, e) {
+        return Read::Refused(10);
+    }
+    if !occurrences_ok(table, e) {
+        return Read::Refused(11);
+    }
+    if !attributes_ok(table, e) {
+        return Read::Refused(12);
+    }
+    if !target_ok(table, e) {
+        return Read::Refused(13);
     }
     if !in_order(i, before, e) {
         return Read::Refused(7);

@@ -3,7 +3,6 @@ use mathlib.Core.Path.{_≡_, refl, ap}
 use mathlib.Core.Bool.{Bool, true, false, cond}
 use mathlib.Core.List.{List, [], _∷_, _++_, map}
 use Prim.Native.Nat.{ℕ, zero, suc, _≤_, _<_, zero-le}
-use native.Mathlib.Decide.{decLt}
 use native.Mathlib.Omega.{arith}
 use lib.Dec.{eqb}
 use lib.ListN.{length, length-append, length-map, length-replicate, length-take}
@@ -13,7 +12,7 @@ use Rattle.grammar.specs.declared.Checked.the-variants.{Good, Refused as Bad}
 use Rattle.grammar.specs.Grammar.{production, rights}
 use Rattle.grammar.specs.Table.{P, grammarOf}
 use Rattle.grammar.specs.Refusal.{refusal}
-use Rattle.grammar.proofs.Lookups.{production-there, production-none, slots-are}
+use Rattle.grammar.proofs.Lookups.{slots-seven}
 use Rattle.rules.specs.declared.Answer.the-variants.{Noncircular}
 use Rattle.rules.specs.declared.Entry.{Entry}
 use Rattle.rules.specs.Passes.{System, State, Ran, going, stopped, andThen, seven, noRoot, candidates, prefixed, combinations, stopIf, goOnIf, try, tries, turn, pass, Outcome, outcome, after, empty, passesFrom, passes}
@@ -139,13 +138,6 @@ module _ (W : System) (limit room : ℕ) (few : (p : ℕ) → length (W .rights 
       (λ t k. counted-passes fuel ps (suc begun) t k)
 
 -- ---- the test of a table
-
-pub slots-seven : (bs : List ℕ) (p : ℕ) → length (production (grammarOf bs) p .slots) ≡ 7
-slots-seven bs p = go (decLt p (P bs))
-  where
-    go : Dec (p < P bs) → length (production (grammarOf bs) p .slots) ≡ 7
-    go (yes l) = rw (production-there bs p l, slots-are)
-    go (no f) = rw (production-none bs p (omega arith), length-replicate)
 
 module _ (bs : List ℕ) where
   few-rights : (p : ℕ) → length (systemIn bs .rights p) ≤ 7

@@ -20,7 +20,8 @@ use Rattle.rules.specs.declared.Report.{Report}
 use Rattle.rules.specs.declared.Entry.{Entry}
 use Rattle.rules.specs.Passes.{Outcome, numbered, numberOf, productionOf, entry, noEntry}
 use Rattle.rules.specs.Test.{systemOf, systemIn, byNumber}
-use Rattle.rules.proofs.Stored.{length-seven, counted-test, slots-seven}
+use Rattle.grammar.proofs.Lookups.{slots-seven}
+use Rattle.rules.proofs.Stored.{length-seven, counted-test}
 use Rattle.passes.specs.Slices as slices
 use Rattle.passes.proofs.Following.{drop-later}
 use Rattle.rows.proofs.Writing.{length-written}

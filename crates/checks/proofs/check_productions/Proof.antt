@@ -1,39 +1,37 @@
--- `checks::check_productions` meets its contract. What is left of the productions, from p on, passes the test exactly if all of them do. Assumes nothing.
-use mathlib.Core.Path.{_≡_, refl, sym, ap, subst, _∙_}
+-- `checks::check_productions` meets its contract. What the productions from i on say is what all of them say. Assumes nothing.
+use mathlib.Core.Path.{_≡_, sym, ap, subst, _∙_}
 use mathlib.Core.List.{[], _∷_}
 use Prim.Native.Nat.{_≤_, _-_}
 use native.Mathlib.Omega.{arith}
 use borrow.Author.Needs.{needs}
 use types.Run.{OneOf, miss}
 use denote.Enum.Declared.{tagOf}
-use lib.ListN.{drop}
-use Rattle.numbers.specs.Lists.{every}
-use Rattle.grammar.specs.declared.Read.{Read}
-use Rattle.grammar.specs.Grammar.{noProduction}
+use Rattle.grammar.specs.Grammar.{production}
 use Rattle.grammar.specs.Table.{N, P, grammarOf}
-use Rattle.grammar.specs.Refusal.{productionOk}
-use Rattle.grammar.specs.Steps.{handedUp}
-use Rattle.grammar.proofs.Handing.{records-stop, records-go, records-done}
-use Rattle.grammar.proofs.Lookups.{productions-many}
+use Rattle.grammar.specs.Refusal.{productionOk, productionRule}
+use Rattle.grammar.specs.Steps.{handedUp, productionsCheck}
+use Rattle.grammar.proofs.First.{left, first-begins, first-ends}
+use Rattle.grammar.proofs.Handing.{whole, agrees-or, loop-stops, loop-goes}
 use Rattle.grammar.proofs.Read.{the-type}
 use Rattle.checks.proofs.check_productions.Statement.{statement}
 use Rattle.checks.proofs.check_productions.Tie as tie
 
 abbrev Inv-loop : tie.InvT-loop
-Inv-loop table count p₀ p =
-    (p ≤ count) × (count ≡ P table) × (every (productionOk (N table)) (drop p (grammarOf table .productions)) ≡ every (productionOk (N table)) (grammarOf table .productions))
+Inv-loop table count i₀ i = (i ≤ count) × (count ≡ P table) × (left (productionRule table) (P table) i ≡ productionsCheck table)
 
 abbrev μ-loop : tie.MeasureT-loop
-μ-loop table count p₀ p = count - p
+μ-loop table count i₀ i = count - i
 
 header-of-requires : tie.Need-header-of-requires Inv-loop μ-loop
 header-of-requires c κs = search needs
 
-cast-count : tie.Need-cast-count Inv-loop μ-loop
-cast-count c = search needs
-
 loop-holds : tie.Need-loop-holds Inv-loop μ-loop
-loop-holds c = (search needs, ap (λ h. h .productions) (c .before .header-of .ensures), refl)
+loop-holds c =
+    let bs = c .before .before .args .table .now in
+    (search needs, ap (λ h. h .productions) (c .header-of .ensures), first-begins (productionRule bs) (P bs))
+
+cast-read-production : tie.Need-cast-read-production Inv-loop μ-loop
+cast-read-production c = search needs
 
 read-production-requires : tie.Need-read-production-requires Inv-loop μ-loop
 read-production-requires c κs = search needs
@@ -46,32 +44,36 @@ handed-up-requires c κs = search needs
 
 returns : tie.Need-returns Inv-loop μ-loop
 returns c =
-    let bs = c .before .before .before .before .before .before .before .before .args .table .now in
+    let bs = c .before .before .before .before .before .before .before .args .table .now in
     let at = c .before .before .before .before .loop in
     let q = c .before .before .read-production .ensures in
     let t = subst (λ r. OneOf (0 ∷ 2 ∷ 3 ∷ []) (tagOf the-type r)) q (c .before .match .keys2) in
     c .handed-up .ensures
-    ∙ ap handedUp q
-    ∙ records-stop (productionOk (N bs)) (λ p. Read.Production (record { left = p .left; n = p .n })) 5 (grammarOf bs .productions) noProduction (at .p) (omega (arith, productions-many bs)) (at .inv .2) (0 ∷ 2 ∷ 3 ∷ []) (miss (0 ∷ 2 ∷ 3 ∷ []) 1 tt) t
+    ∙ ap (handedUp (at .i)) q
+    ∙ loop-stops (productionRule bs) (P bs) (at .i) (omega arith) (agrees-or (productionOk (N bs) (production (grammarOf bs) (at .i))) 5 (omega arith) whole) (0 ∷ 2 ∷ 3 ∷ []) (miss (0 ∷ 2 ∷ 3 ∷ []) 1 tt) t
+    ∙ at .inv .2
 
-add-p : tie.Need-add-p Inv-loop μ-loop
-add-p c = search needs
+add-i : tie.Need-add-i Inv-loop μ-loop
+add-i c = search needs
 
 loop-less : tie.Need-loop-less Inv-loop μ-loop
 loop-less c = search needs
 
 loop-again : tie.Need-loop-again Inv-loop μ-loop
 loop-again c =
-    let bs = c .before .before .before .before .before .before .before .before .args .table .now in
+    let bs = c .before .before .before .before .before .before .before .args .table .now in
     let at = c .before .before .before .before .loop in
-    let q = sym (c .before .before .read-production .ensures) ∙ c .enum-told .given .1 in
-    (omega arith, at .inv .1, records-go (productionOk (N bs)) (λ p. Read.Production (record { left = p .left; n = p .n })) 5 (grammarOf bs .productions) noProduction (at .p) (omega (arith, productions-many bs)) (at .inv .2) _ (λ e. omega arith) q)
+    let q = sym (c .before .before .read-production .ensures) ∙ c .enum-told .given .1 in (
+      omega arith,
+      at .inv .1,
+      loop-goes (productionRule bs) (P bs) (at .i) (omega arith) (agrees-or (productionOk (N bs) (production (grammarOf bs) (at .i))) 5 (omega arith) whole) _ (λ e. omega arith) q ∙ at .inv .2,
+    )
 
 returns-2 : tie.Need-returns-2 Inv-loop μ-loop
 returns-2 c =
-    let bs = c .before .before .before .before .before .args .table .now in
+    let bs = c .before .before .before .before .args .table .now in
     let at = c .before .loop in
-    records-done (productionOk (N bs)) (λ p. Read.Production (record { left = p .left; n = p .n })) 5 (grammarOf bs .productions) noProduction (at .p) (omega (arith, productions-many bs)) (at .inv .2)
+    first-ends (productionRule bs) (P bs) (at .i) (omega arith) ∙ at .inv .2
 
 pub check-productions-spec : {M : Type 1} → statement M
 check-productions-spec =
@@ -80,13 +82,13 @@ check-productions-spec =
     Inv-loop
     μ-loop
     header-of-requires
-    cast-count
     loop-holds
+    cast-read-production
     read-production-requires
     enum-told
     handed-up-requires
     returns
-    add-p
+    add-i
     loop-less
     loop-again
     returns-2)

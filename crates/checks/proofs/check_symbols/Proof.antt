@@ -1,39 +1,37 @@
--- `checks::check_symbols` meets its contract. What is left of the symbols, from s on, passes the test exactly if all of them do. Assumes nothing.
-use mathlib.Core.Path.{_≡_, refl, sym, ap, subst, _∙_}
+-- `checks::check_symbols` meets its contract. What the symbols from i on say is what all of them say. Assumes nothing.
+use mathlib.Core.Path.{_≡_, sym, ap, subst, _∙_}
 use mathlib.Core.List.{[], _∷_}
 use Prim.Native.Nat.{_≤_, _-_}
 use native.Mathlib.Omega.{arith}
 use borrow.Author.Needs.{needs}
 use types.Run.{OneOf, miss}
 use denote.Enum.Declared.{tagOf}
-use lib.ListN.{drop}
-use Rattle.numbers.specs.Lists.{every}
-use Rattle.grammar.specs.declared.Read.{Read}
-use Rattle.grammar.specs.Grammar.{noSymbol}
+use Rattle.grammar.specs.Grammar.{symbol}
 use Rattle.grammar.specs.Table.{N, widthOf, grammarOf}
-use Rattle.grammar.specs.Refusal.{symbolOk}
-use Rattle.grammar.specs.Steps.{handedUp}
-use Rattle.grammar.proofs.Handing.{records-stop, records-go, records-done}
-use Rattle.grammar.proofs.Lookups.{symbols-many}
+use Rattle.grammar.specs.Refusal.{symbolOk, symbolRule}
+use Rattle.grammar.specs.Steps.{handedUp, symbolsCheck}
+use Rattle.grammar.proofs.First.{left, first-begins, first-ends}
+use Rattle.grammar.proofs.Handing.{whole, agrees-or, loop-stops, loop-goes}
 use Rattle.grammar.proofs.Read.{the-type}
 use Rattle.checks.proofs.check_symbols.Statement.{statement}
 use Rattle.checks.proofs.check_symbols.Tie as tie
 
 abbrev Inv-loop : tie.InvT-loop
-Inv-loop table count s₀ s =
-    (s ≤ count) × (count ≡ N table) × (every (symbolOk (widthOf table)) (drop s (grammarOf table .symbols)) ≡ every (symbolOk (widthOf table)) (grammarOf table .symbols))
+Inv-loop table count i₀ i = (i ≤ count) × (count ≡ N table) × (left (symbolRule table) (N table) i ≡ symbolsCheck table)
 
 abbrev μ-loop : tie.MeasureT-loop
-μ-loop table count s₀ s = count - s
+μ-loop table count i₀ i = count - i
 
 header-of-requires : tie.Need-header-of-requires Inv-loop μ-loop
 header-of-requires c κs = search needs
 
-cast-count : tie.Need-cast-count Inv-loop μ-loop
-cast-count c = search needs
-
 loop-holds : tie.Need-loop-holds Inv-loop μ-loop
-loop-holds c = (search needs, ap (λ h. h .symbols) (c .before .header-of .ensures), refl)
+loop-holds c =
+    let bs = c .before .before .args .table .now in
+    (search needs, ap (λ h. h .symbols) (c .header-of .ensures), first-begins (symbolRule bs) (N bs))
+
+cast-read-symbol : tie.Need-cast-read-symbol Inv-loop μ-loop
+cast-read-symbol c = search needs
 
 read-symbol-requires : tie.Need-read-symbol-requires Inv-loop μ-loop
 read-symbol-requires c κs = search needs
@@ -46,32 +44,36 @@ handed-up-requires c κs = search needs
 
 returns : tie.Need-returns Inv-loop μ-loop
 returns c =
-    let bs = c .before .before .before .before .before .before .before .before .args .table .now in
+    let bs = c .before .before .before .before .before .before .before .args .table .now in
     let at = c .before .before .before .before .loop in
     let q = c .before .before .read-symbol .ensures in
     let t = subst (λ r. OneOf (1 ∷ 2 ∷ 3 ∷ []) (tagOf the-type r)) q (c .before .match .keys2) in
     c .handed-up .ensures
-    ∙ ap handedUp q
-    ∙ records-stop (symbolOk (widthOf bs)) Read.Symbol 4 (grammarOf bs .symbols) noSymbol (at .s) (omega (arith, symbols-many bs)) (at .inv .2) (1 ∷ 2 ∷ 3 ∷ []) (miss (1 ∷ 2 ∷ 3 ∷ []) 0 tt) t
+    ∙ ap (handedUp (at .i)) q
+    ∙ loop-stops (symbolRule bs) (N bs) (at .i) (omega arith) (agrees-or (symbolOk (widthOf bs) (symbol (grammarOf bs) (at .i))) 4 (omega arith) whole) (1 ∷ 2 ∷ 3 ∷ []) (miss (1 ∷ 2 ∷ 3 ∷ []) 0 tt) t
+    ∙ at .inv .2
 
-add-s : tie.Need-add-s Inv-loop μ-loop
-add-s c = search needs
+add-i : tie.Need-add-i Inv-loop μ-loop
+add-i c = search needs
 
 loop-less : tie.Need-loop-less Inv-loop μ-loop
 loop-less c = search needs
 
 loop-again : tie.Need-loop-again Inv-loop μ-loop
 loop-again c =
-    let bs = c .before .before .before .before .before .before .before .before .args .table .now in
+    let bs = c .before .before .before .before .before .before .before .args .table .now in
     let at = c .before .before .before .before .loop in
-    let q = sym (c .before .before .read-symbol .ensures) ∙ c .enum-told .given .1 in
-    (omega arith, at .inv .1, records-go (symbolOk (widthOf bs)) Read.Symbol 4 (grammarOf bs .symbols) noSymbol (at .s) (omega (arith, symbols-many bs)) (at .inv .2) _ (λ e. omega arith) q)
+    let q = sym (c .before .before .read-symbol .ensures) ∙ c .enum-told .given .1 in (
+      omega arith,
+      at .inv .1,
+      loop-goes (symbolRule bs) (N bs) (at .i) (omega arith) (agrees-or (symbolOk (widthOf bs) (symbol (grammarOf bs) (at .i))) 4 (omega arith) whole) _ (λ e. omega arith) q ∙ at .inv .2,
+    )
 
 returns-2 : tie.Need-returns-2 Inv-loop μ-loop
 returns-2 c =
-    let bs = c .before .before .before .before .before .args .table .now in
+    let bs = c .before .before .before .before .args .table .now in
     let at = c .before .loop in
-    records-done (symbolOk (widthOf bs)) Read.Symbol 4 (grammarOf bs .symbols) noSymbol (at .s) (omega (arith, symbols-many bs)) (at .inv .2)
+    first-ends (symbolRule bs) (N bs) (at .i) (omega arith) ∙ at .inv .2
 
 pub check-symbols-spec : {M : Type 1} → statement M
 check-symbols-spec =
@@ -80,13 +82,13 @@ check-symbols-spec =
     Inv-loop
     μ-loop
     header-of-requires
-    cast-count
     loop-holds
+    cast-read-symbol
     read-symbol-requires
     enum-told
     handed-up-requires
     returns
-    add-s
+    add-i
     loop-less
     loop-again
     returns-2)

@@ -1,7 +1,7 @@
--- `checks::handed_up` meets its contract. Assumes nothing.
+-- The refusal is that of the record. Assumes nothing.
 use mathlib.Core.Path.{sym, ap}
-use borrow.Author.Needs.{needs}
 use Rattle.grammar.specs.Steps.{handedUp}
+use borrow.Author.Needs.{needs}
 use Rattle.checks.proofs.handed_up.Statement.{statement}
 use Rattle.checks.proofs.handed_up.Tie as tie
 
@@ -27,7 +27,9 @@ returns-3 : tie.Need-returns-3
 returns-3 c = search needs
 
 returns-4 : tie.Need-returns-4
-returns-4 c = sym (ap handedUp (c .before .read .given .1))
+returns-4 c =
+    let a = c .before .before .before .args in
+    ap (handedUp (a .i)) (sym (c .before .read .given .1))
 
 pub handed-up-spec : {M : Type 1} → statement M
 handed-up-spec =
