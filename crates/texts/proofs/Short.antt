@@ -38,21 +38,22 @@ counts-short closures entries passes hc he hp =
     simp length-append (omega arith)
 
 -- the number of a rule takes 8 bits, and that of a record 16
-abbrev pub InTypes : Broken → Type 0
-InTypes (Rule k) = k < 2 ^ 8
-InTypes (Record k i) = (k < 2 ^ 8) × (i < 2 ^ 16)
+pub record InTypes (a : Answer) : Type 0 where
+  pub rule : (k : ℕ) → a ≡ Refused (Rule k) → k < 2 ^ 8
+  pub of-record : (k i : ℕ) → a ≡ Refused (Record k i) → (k < 2 ^ 8) × (i < 2 ^ 16)
 
-broken-short : (b : Broken) → InTypes b → length (spaced (brokenNumbers b)) ≤ 12
+broken-short : (b : Broken) → InTypes (Refused b) → length (spaced (brokenNumbers b)) ≤ 12
 unfolding spaced
-broken-short (Rule k) h = let few = short k (omega arith) in simp length-append (omega arith)
+broken-short (Rule k) h = let few = short k (let small = h .rule k refl in omega arith) in simp length-append (omega arith)
 broken-short (Record k i) h =
-    let few = short k (omega (arith, h .0)) in
-    let more = short i (h .1) in
+    let small = h .of-record k i refl in
+    let few = short k (omega arith) in
+    let more = short i (small .1) in
     simp length-append (omega arith)
 
 pub first-short :
     (report : Report) →
-    ((b : Broken) → report .answer ≡ Refused b → InTypes b) →
+    InTypes (report .answer) →
     report .closures < 2 ^ 32 →
     report .entries < 2 ^ 16 →
     report .passes < 2 ^ 16 →
@@ -60,10 +61,10 @@ pub first-short :
 unfolding firstLine
 first-short report hk hc he hp = by (report .answer) _ hk (counts-short _ _ _ hc he hp)
   where
-    by : (a : Answer) (numbers : List ℕ) → ((b : Broken) → a ≡ Refused b → InTypes b) → length numbers ≤ 58 → length (answered a numbers) ≤ 128
+    by : (a : Answer) (numbers : List ℕ) → InTypes a → length numbers ≤ 58 → length (answered a numbers) ≤ 128
     by Noncircular numbers hk h = simp length-append (omega arith)
     by (Circular p) numbers hk h = simp length-append (omega arith)
-    by (Refused b) numbers hk h = let few = broken-short b (hk b refl) in simp length-append (omega arith)
+    by (Refused b) numbers hk h = let few = broken-short b hk in simp length-append (omega arith)
     by OutOfSteps numbers hk h = simp length-append (omega arith)
     by OutOfRoom numbers hk h = simp length-append (omega arith)
 

@@ -3,11 +3,11 @@ use borrow.Author.Needs.{needs}
 use Rattle.kusillaqe.proofs.flat_of.Statement.{statement}
 use Rattle.kusillaqe.proofs.flat_of.Tie as tie
 
-kind-of-requires : tie.Need-kind-of-requires
-kind-of-requires c κs = search needs
+number-of-requires : tie.Need-number-of-requires
+number-of-requires c κs = search needs
 
-root-of-requires : tie.Need-root-of-requires
-root-of-requires c κs = search needs
+value-of-requires : tie.Need-value-of-requires
+value-of-requires c κs = search needs
 
 wide-requires : tie.Need-wide-requires
 wide-requires c κs = search needs
@@ -64,8 +64,8 @@ pub flat-of-spec : {M : Type 1} → statement M
 flat-of-spec =
     tie.close
     (tie.spec
-    kind-of-requires
-    root-of-requires
+    number-of-requires
+    value-of-requires
     wide-requires
     wide-requires-2
     array-read-wide

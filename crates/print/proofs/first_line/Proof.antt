@@ -2,9 +2,6 @@ use borrow.Author.Needs.{needs}
 use Rattle.texts.proofs.Short.{first-short}
 use Rattle.print.proofs.first_line.Statement.{statement}
 use Rattle.print.proofs.first_line.Tie as tie
-use Rattle.print.proofs.first_line.Reads as reads
-use Rattle.print.proofs.first_line.Lts as lts
-use Rattle.lines.proofs.put_first.Reads as put-first-reads
 
 put-first-requires : tie.Need-put-first-requires
 put-first-requires c κs = search needs
@@ -17,7 +14,13 @@ returns c =
     let good = c .before .before .before .before .before .good in
     record {
       written = search needs;
-      short = first-short _ (λ k e. let small = rw e at (good .1 .0 .1 .1 .0) in search needs) (search needs) (search needs) (search needs);
+      short =
+          first-short _
+          (record {
+            rule = λ k e. let small = rw e at (good .1 .0 .1 .1 .0) in search needs;
+            of-record = λ k i e. let small = rw e at (good .1 .0 .1 .1 .0) in search needs;
+          })
+          (search needs) (search needs) (search needs);
     }
 
 pub first-line-spec : {M : Type 1} → statement M
