@@ -18,10 +18,13 @@ use Rattle.trees.specs.Evaluator.{Evaluator}
 use Rattle.trees.specs.Record as record-of-trees
 use Rattle.trees.proofs.Saturation.{none-circular}
 use Rattle.trees.proofs.Evaluators as evaluators
+use Rattle.grammar.specs.declared.Broken.{Broken}
+use Rattle.grammar.specs.declared.Checked.{Checked}
+use Rattle.grammar.specs.declared.Checked.the-variants.{Good, Refused as Bad}
 use Rattle.rules.specs.declared.Answer.{Answer}
 use Rattle.rules.specs.declared.Answer.the-variants.{Noncircular, Circular, Refused, OutOfSteps, OutOfRoom}
 use Rattle.rules.specs.Passes.{Outcome, outcome, entry, noRoot, empty, numbered, passes}
-use Rattle.rules.specs.Test.{systemIn, byNumber, test}
+use Rattle.rules.specs.Test.{systemIn, byNumber, afterCheck, test}
 use Rattle.orders.specs.Answers as runs
 use Rattle.orders.specs.Stored.{In}
 use Rattle.orders.proofs.Answers as runs-shown
@@ -39,70 +42,42 @@ case (Refused k) = 2
 case OutOfSteps = 3
 case OutOfRoom = 4
 
--- the number of a rule that a table breaks is no other answer's
-broken : (bs : List ℕ) (k : ℕ) → Breaks bs k → numbered k ≡ Refused k
-unfolding numbered
-broken bs k (Breaks.header-short a) = refl
-broken bs k (Breaks.counts a b) = refl
-broken bs k (Breaks.offsets a b c) = refl
-broken bs k (Breaks.symbol-bad a b c d) = refl
-broken bs k (Breaks.production-bad a b c d e) = refl
-broken bs k (Breaks.edge-bad a i b c d) = refl
-broken bs k (Breaks.edge-order a i b c d e) = refl
-
-some-rule : (bs : List ℕ) (k : ℕ) → Breaks bs k → (j : ℕ) × (k ≡ suc j)
-some-rule bs k (Breaks.header-short a) = (0, refl)
-some-rule bs k (Breaks.counts a b) = (1, refl)
-some-rule bs k (Breaks.offsets a b c) = (2, refl)
-some-rule bs k (Breaks.symbol-bad a b c d) = (3, refl)
-some-rule bs k (Breaks.production-bad a b c d e) = (4, refl)
-some-rule bs k (Breaks.edge-bad a i b c d) = (5, refl)
-some-rule bs k (Breaks.edge-order a i b c d e) = (6, refl)
-
 module _ (bs : List ℕ) where
   abbrev ran : ℕ → ℕ → Outcome
   ran limit room = passes (systemIn bs) limit room (byNumber (grammarOf bs))
 
   -- either the passes are run, or the table breaks a rule
-  taken : refusal bs ≡ 0 → (limit room : ℕ) → back bs limit room ≡ ran limit room
-  unfolding test
+  taken : refusal bs ≡ Good → (limit room : ℕ) → back bs limit room ≡ ran limit room
+  unfolding test afterCheck
   taken e limit room = rw e
 
-  turned-away : (k : ℕ) → refusal bs ≡ suc k → (limit room : ℕ) → back bs limit room ≡ outcome (numbered (suc k)) noRoot empty 0
-  unfolding test
-  turned-away k e limit room =
-      ap (λ (n : ℕ). cond (eqb n 0) (ran limit room) (outcome (numbered n) noRoot empty 0)) e
-      ∙ ap (λ (b : Bool). cond b (ran limit room) (outcome (numbered (suc k)) noRoot empty 0)) (eqb·suc-zero k)
+  pub refused : (b : Broken) → Breaks bs b → (limit room : ℕ) → back bs limit room ≡ outcome (Refused b) noRoot empty 0
+  unfolding test afterCheck
+  refused b h limit room = rw (rules-shown.refused-exactly bs b .1 h)
 
-  pub refused : (k : ℕ) → Breaks bs k → (limit room : ℕ) → back bs limit room ≡ outcome (Refused k) noRoot empty 0
-  refused k b limit room =
-      let j = some-rule bs k b in
-      turned-away (j .0) (rules-shown.refused-exactly bs (j .0) .1 (subst (Breaks bs) (j .1) b)) limit room
-      ∙ ap (λ (a : Answer). outcome a noRoot empty 0) (ap numbered (sym (j .1)) ∙ broken bs k b)
-
-  pub either : (refusal bs ≡ 0) ⊎ ((k : ℕ) × Breaks bs k)
+  pub either : (refusal bs ≡ Good) ⊎ ((b : Broken) × Breaks bs b)
   either = go (refusal bs) refl
     where
-      go : (n : ℕ) → refusal bs ≡ n → (refusal bs ≡ 0) ⊎ ((k : ℕ) × Breaks bs k)
-      go zero e = inl e
-      go (suc k) e = inr (suc k, rules-shown.refused-exactly bs k .0 e)
+      go : (c : Checked) → refusal bs ≡ c → (refusal bs ≡ Good) ⊎ ((b : Broken) × Breaks bs b)
+      go Good e = inl e
+      go (Bad b) e = inr (b, rules-shown.refused-exactly bs b .0 e)
 
-  when-unbroken : NoRuleBroken bs → refusal bs ≡ 0
+  when-unbroken : NoRuleBroken bs → refusal bs ≡ Good
   when-unbroken n = go either
     where
-      go : (refusal bs ≡ 0) ⊎ ((k : ℕ) × Breaks bs k) → refusal bs ≡ 0
+      go : (refusal bs ≡ Good) ⊎ ((b : Broken) × Breaks bs b) → refusal bs ≡ Good
       go (inl e) = e
-      go (inr (k, b)) = absurd (n k b)
+      go (inr (b, h)) = absurd (n b h)
 
   -- an answer other than a refusal is that of the passes
-  not-refused : (limit room : ℕ) (a : Answer) → answer bs limit room ≡ a → ¬ (case a ≡ 2) → refusal bs ≡ 0
+  not-refused : (limit room : ℕ) (a : Answer) → answer bs limit room ≡ a → ¬ (case a ≡ 2) → refusal bs ≡ Good
   not-refused limit room a h n = go either
     where
-      go : (refusal bs ≡ 0) ⊎ ((k : ℕ) × Breaks bs k) → refusal bs ≡ 0
+      go : (refusal bs ≡ Good) ⊎ ((k : Broken) × Breaks bs k) → refusal bs ≡ Good
       go (inl e) = e
       go (inr (k, b)) = absurd (n (ap case (sym h) ∙ ap (λ (o : Outcome). case (o .report .answer)) (refused k b limit room)))
 
-  module _ (good : refusal bs ≡ 0) where
+  module _ (good : refusal bs ≡ Good) where
     pub sound : (limit room : ℕ) → runs.Sound (systemIn bs) (In (byNumber (grammarOf bs))) limit room (back bs limit room)
     sound limit room =
         subst (runs.Sound (systemIn bs) (In (byNumber (grammarOf bs))) limit room) (sym (taken good limit room))
@@ -115,11 +90,11 @@ refused-exactly bs limit room k = record {
   nothing = λ b. refused bs k b limit room;
 }
   where
-    sound-answer : refusal bs ≡ 0
+    sound-answer : refusal bs ≡ Good
         → runs.Says (systemIn bs) (In (byNumber (grammarOf bs))) limit room (ran bs limit room) (said (ran bs limit room))
     sound-answer e = runs-shown.outcome-sound (systemIn bs) (byNumber (grammarOf bs)) limit room .says
 
-    go : answer bs limit room ≡ Refused k → (refusal bs ≡ 0) ⊎ ((j : ℕ) × Breaks bs j) → Breaks bs k
+    go : answer bs limit room ≡ Refused k → (refusal bs ≡ Good) ⊎ ((j : Broken) × Breaks bs j) → Breaks bs k
     go h (inl e) =
         absurd
         (subst (runs.Says (systemIn bs) (In (byNumber (grammarOf bs))) limit room (ran bs limit room))
@@ -133,7 +108,7 @@ refused-exactly bs limit room k = record {
 pub entries-shown : EntriesShownAlways back
 entries-shown bs limit room k l = go (either bs)
   where
-    go : (refusal bs ≡ 0) ⊎ ((k : ℕ) × Breaks bs k) → EntryShown bs k (back bs limit room)
+    go : (refusal bs ≡ Good) ⊎ ((k : Broken) × Breaks bs k) → EntryShown bs k (back bs limit room)
     go (inl good) =
         let g = grammarOf bs in
         let o = obeys bs good in
@@ -182,7 +157,7 @@ noncircular-none bs limit room h =
 pub limits-kept : LimitsKeptAlways back
 limits-kept bs limit R = go (either bs)
   where
-    go : (refusal bs ≡ 0) ⊎ ((k : ℕ) × Breaks bs k) → LimitsKept limit R (back bs limit R)
+    go : (refusal bs ≡ Good) ⊎ ((k : Broken) × Breaks bs k) → LimitsKept limit R (back bs limit R)
     go (inl e) =
         let s = sound bs e limit R in
         let says = runs.Says (systemIn bs) (In (byNumber (grammarOf bs))) limit R (back bs limit R) in
@@ -206,7 +181,7 @@ limits-kept bs limit R = go (either bs)
 pub steps-exactly : StepsExactlyAlways back
 steps-exactly bs L M room lt = go (either bs)
   where
-    go : (refusal bs ≡ 0) ⊎ ((k : ℕ) × Breaks bs k) → StepsExactly bs L M room (back bs L room)
+    go : (refusal bs ≡ Good) ⊎ ((k : Broken) × Breaks bs k) → StepsExactly bs L M room (back bs L room)
     go (inl e) =
         let x = runs-shown.steps-exactly (systemIn bs) (byNumber (grammarOf bs)) L M room lt in
         let y = subst₂ (runs.StepsCompared L) (sym (taken bs e L room)) (sym (taken bs e M room)) x in
@@ -225,7 +200,7 @@ steps-exactly bs L M room lt = go (either bs)
 pub room-exactly : RoomExactlyAlways back
 room-exactly bs limit l R S lt low high = go (either bs)
   where
-    go : (refusal bs ≡ 0) ⊎ ((k : ℕ) × Breaks bs k) → RoomExactly bs limit l R S (back bs limit R)
+    go : (refusal bs ≡ Good) ⊎ ((k : Broken) × Breaks bs k) → RoomExactly bs limit l R S (back bs limit R)
     go (inl e) =
         let W = systemIn bs in
         let c = ap (λ (o : Outcome). o .report .closures) (taken bs e limit R) in
@@ -249,7 +224,7 @@ room-exactly bs limit l R S lt low high = go (either bs)
 pub room-counts : RoomCountsAlways back
 room-counts bs limit R unbroken calm enough = go (answer bs limit R) refl (s .says)
   where
-    good : refusal bs ≡ 0
+    good : refusal bs ≡ Good
     good = when-unbroken bs unbroken
 
     s : runs.Sound (systemIn bs) (In (byNumber (grammarOf bs))) limit R (back bs limit R)

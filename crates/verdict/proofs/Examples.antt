@@ -6,6 +6,7 @@ use Prim.Native.Nat.{ℕ}
 use native.Mathlib.Omega.{arith}
 use lib.ListN.{length, take, set}
 use Rattle.grammar.specs.Table.{grammarOf}
+use Rattle.grammar.specs.declared.Broken.the-variants.{Rule, Record}
 use Rattle.grammar.specs.Rules.{Breaks}
 use Rattle.trees.specs.Tree.{node, nil, cons, here}
 use Rattle.trees.specs.Evaluator.{notGiven, Evaluator, play}
@@ -36,12 +37,12 @@ when-noncircular bs limit room h k b =
     let z : _≡_ {A = ℕ} 0 1 = cc in omega arith
 
 -- ---- demand 1: of A 23 bytes are refused by 1, and A itself by no number
-short-A : answer (take 23 tableA) 10 3 ≡ Refused 1
+short-A : answer (take 23 tableA) 10 3 ≡ Refused (Rule 1)
 unfolding opened tableA
 short-A = refl
 
-header-A : Breaks (take 23 tableA) 1
-header-A = refused-exactly (take 23 tableA) 10 3 1 .exactly .0 short-A
+header-A : Breaks (take 23 tableA) (Rule 1)
+header-A = refused-exactly (take 23 tableA) 10 3 (Rule 1) .exactly .0 short-A
 
 noncircular-A : answer tableA 10 3 ≡ Noncircular
 unfolding opened tableA
@@ -166,13 +167,13 @@ room-B : answer tableB 3 1 ≡ OutOfRoom
 room-B =
     room-exactly tableB 3 3 1 2 (omega arith) (omega (arith, closures-room-B)) (omega arith) .exactly .1 (omega (arith, entries-B))
 
--- an edge of B given twice is refused by 7
-twice-B : answer (set (set tableB 103 0) 105 2) 3 2 ≡ Refused 7
+-- an edge of B given twice is refused by 7, with its number
+twice-B : answer (set (set tableB 103 0) 105 2) 3 2 ≡ Refused (Record 7 3)
 unfolding opened tableB
 twice-B = refl
 
-order-B : Breaks (set (set tableB 103 0) 105 2) 7
-order-B = refused-exactly (set (set tableB 103 0) 105 2) 3 2 7 .exactly .0 twice-B
+order-B : Breaks (set (set tableB 103 0) 105 2) (Record 7 3)
+order-B = refused-exactly (set (set tableB 103 0) 105 2) 3 2 (Record 7 3) .exactly .0 twice-B
 
 -- ---- the demands at R, which has trees without end
 noncircular-R : answer tableR 5 2 ≡ Noncircular
@@ -216,9 +217,9 @@ goes-on-R : NeverStill tableR (node 1 (cons (node 0 nil) nil))
 goes-on-R = never-still tableR 5 2 noncircular-R (node 1 (cons (node 0 nil) nil)) tree-R
 
 -- one byte less is refused by 3
-short-R : answer (take 67 tableR) 5 2 ≡ Refused 3
+short-R : answer (take 67 tableR) 5 2 ≡ Refused (Rule 3)
 unfolding opened tableR
 short-R = refl
 
-offsets-R : Breaks (take 67 tableR) 3
-offsets-R = refused-exactly (take 67 tableR) 5 2 3 .exactly .0 short-R
+offsets-R : Breaks (take 67 tableR) (Rule 3)
+offsets-R = refused-exactly (take 67 tableR) 5 2 (Rule 3) .exactly .0 short-R

@@ -10,6 +10,7 @@ use Rattle.numbers.proofs.Ranges.{length-upFrom}
 use Rattle.grammar.specs.declared.Production.{Production}
 use Rattle.grammar.specs.Grammar.{production}
 use Rattle.grammar.specs.Table.{P, widthOf, atProductions, productionIn, grammarOf}
+use Rattle.grammar.specs.declared.Checked.the-variants.{Good}
 use Rattle.grammar.specs.Refusal.{refusal}
 use Rattle.grammar.proofs.Valid.{valid}
 use Rattle.trees.specs.Tree.{WellFormed, AtMost}
@@ -25,7 +26,7 @@ slots-there bs p m =
     let r = Memᴰ·of-map (λ i. productionIn bs (atProductions bs + 18 * i)) (upFrom 0 (P bs)) m in
     ap (λ (q : Production). length (q .slots)) (sym (r .2)) ∙ seven-slots bs (atProductions bs + 18 * r .0)
 
-pub obeys : (bs : List ℕ) → refusal bs ≡ 0 → WellFormed (grammarOf bs) × AtMost (widthOf bs) (grammarOf bs)
+pub obeys : (bs : List ℕ) → refusal bs ≡ Good → WellFormed (grammarOf bs) × AtMost (widthOf bs) (grammarOf bs)
 obeys bs e =
     let v = valid bs e in (
       record {

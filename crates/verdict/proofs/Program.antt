@@ -6,6 +6,7 @@ use native.Mathlib.Omega.{arith}
 use lib.ListN.{length, drop, length-map}
 use lib.Seq.{drop-at}
 use Rattle.numbers.specs.Lists.{written}
+use Rattle.grammar.specs.declared.Broken.{Broken}
 use Rattle.rules.specs.declared.Answer.the-variants.{Refused}
 use Rattle.rules.specs.declared.Report.{Report}
 use Rattle.rules.specs.declared.Entry.{Entry}
@@ -157,5 +158,5 @@ carried bs limit σ r τ promised =
 
 -- whatever number the report refuses by, all that is lent is as before
 pub refused-untouched :
-    (bs : List ℕ) (limit : ℕ) (σ : Slices) (r : Report) (τ : Slices) → Program bs limit σ r τ → (k : ℕ) → r .answer ≡ Refused k → τ ≡ σ
+    (bs : List ℕ) (limit : ℕ) (σ : Slices) (r : Report) (τ : Slices) → Program bs limit σ r τ → (b : Broken) → r .answer ≡ Refused b → τ ≡ σ
 refused-untouched bs limit σ r τ p k h = p .untouched k (p .demanded .refused k .exactly .0 h)

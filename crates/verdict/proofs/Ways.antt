@@ -1,24 +1,30 @@
 -- Every way in carries the demands and tells the outcome. Assumes nothing.
 use mathlib.Core.Path.{_≡_, refl, sym, ap, _∙_, subst}
+use mathlib.Core.Bool.{false}
 use mathlib.Core.List.{List, [], _∷_, map}
 use mathlib.Core.Logic.{_⊎_, inl, inr}
 use Prim.Native.Nat.{ℕ, zero, suc, _+_, _≤_}
 use native.Mathlib.Omega.{arith}
+use lib.Dec.{eqb}
 use lib.ListN.{length, getD, take, drop, length-take, drop-of-length-le}
 use lib.Seq.{drop-cons, take-at, getD-take}
+use borrow.Author.Tests.{ne-eqb}
 use contract.Monad.{fact-mono}
 use denote.Ref.{now}
 use Rattle.numbers.specs.Lists.{upFrom, written}
 use Rattle.grammar.specs.Grammar.{production}
 use Rattle.grammar.specs.Table.{grammarOf}
-use Rattle.grammar.specs.Rules.{Breaks}
+use Rattle.grammar.specs.Rules.{EdgeBreaks, Breaks}
+use Rattle.grammar.specs.declared.Broken.{Broken}
+use Rattle.grammar.specs.declared.Broken.the-variants.{Record}
+use Rattle.grammar.specs.declared.Checked.the-variants.{Good}
 use Rattle.grammar.specs.Refusal.{refusal}
 use Rattle.trees.proofs.Values.{length-rights}
 use Rattle.rules.specs.declared.Answer.{Answer}
 use Rattle.rules.specs.declared.Answer.the-variants.{Noncircular, Circular, Refused, OutOfSteps, OutOfRoom}
 use Rattle.rules.specs.declared.Report.{Report}
 use Rattle.rules.specs.declared.Entry.{Entry}
-use Rattle.rules.specs.Passes.{Outcome, numbered, numberOf, productionOf, entry, noEntry}
+use Rattle.rules.specs.Passes.{Outcome, numbered, numberOf, noValue, valueOf, entry, noEntry}
 use Rattle.rules.specs.Test.{systemOf, systemIn, byNumber}
 use Rattle.grammar.proofs.Lookups.{slots-seven}
 use Rattle.rules.proofs.Stored.{length-seven, counted-test}
@@ -86,7 +92,7 @@ program-of-records M 𝓤 H A mem run κs a r s =
 
 -- ---- what an answer leaves at 0
 
-module _ (bs : List ℕ) (good : refusal bs ≡ 0) where
+module _ (bs : List ℕ) (good : refusal bs ≡ Good) where
   -- the slots that count are those of the right symbols
   others : (n p : ℕ) (slots : List ℕ) (o : Outcome) → Slots (systemIn bs) (In (byNumber (grammarOf bs))) (o .entries) n p slots
       → OthersZero (kidsIn bs p) slots
@@ -105,7 +111,7 @@ module _ (bs : List ℕ) (good : refusal bs ≡ 0) where
 unprinted-zero : (bs : List ℕ) (limit room : ℕ) → UnprintedZero (kidsIn bs) (back bs limit room)
 unprinted-zero bs limit room = go (either bs)
   where
-    go : (refusal bs ≡ 0) ⊎ ((k : ℕ) × Breaks bs k) → UnprintedZero (kidsIn bs) (back bs limit room)
+    go : (refusal bs ≡ Good) ⊎ ((k : Broken) × Breaks bs k) → UnprintedZero (kidsIn bs) (back bs limit room)
     go (inl good) =
         let s = sound bs good limit room in
         record {
@@ -118,16 +124,22 @@ unprinted-zero bs limit room = go (either bs)
 
 -- ---- the twelve numbers
 
--- the number of a broken rule is no other answer's
-broken-told : (bs : List ℕ) (k : ℕ) → Breaks bs k → answerFrom k 0 ≡ Refused k
+-- the number of a broken rule is no other answer's, and that of a record is no missing one's
+broken-told : (bs : List ℕ) (b : Broken) → Breaks bs b → answerFrom (numberOf (Refused b)) (valueOf (Refused b)) ≡ Refused b
 unfolding numbered
-broken-told bs k (Breaks.header-short a) = refl
-broken-told bs k (Breaks.counts a b) = refl
-broken-told bs k (Breaks.offsets a b c) = refl
-broken-told bs k (Breaks.symbol-bad a b c d) = refl
-broken-told bs k (Breaks.production-bad a b c d e) = refl
-broken-told bs k (Breaks.edge-bad a i b c d) = refl
-broken-told bs k (Breaks.edge-order a i b c d e) = refl
+broken-told bs b (Breaks.header-short a) = refl
+broken-told bs b (Breaks.counts h a) = refl
+broken-told bs b (Breaks.offsets h c a) = refl
+broken-told bs b (Breaks.symbol-bad h i f) = rw (ne-eqb i noValue (λ e. omega (arith, f .there, h .1 .symbols)))
+broken-told bs b (Breaks.production-bad h s i f) = rw (ne-eqb i noValue (λ e. omega (arith, f .there, h .1 .productions)))
+broken-told bs b (Breaks.edge-bad h i k l all bad) = go k bad (ne-eqb i noValue (λ e. omega (arith, h .0 .1 .edges)))
+  where
+    go : (k : ℕ) → EdgeBreaks (grammarOf bs) i k → eqb i noValue ≡ false → answerFrom k i ≡ Refused (Record k i)
+    go k (EdgeBreaks.no-production n) e = rw e
+    go k (EdgeBreaks.no-occurrence p n) e = rw e
+    go k (EdgeBreaks.no-attribute p o n) e = rw e
+    go k (EdgeBreaks.not-allowed p o a n) e = rw e
+    go k (EdgeBreaks.not-above h n) e = rw e
 
 -- a list, place by place
 places-told : (l : List ℕ) (i n : ℕ) → length l ≡ i + n → map (λ k. getD l k 0) (upFrom i n) ≡ drop i l
@@ -136,14 +148,14 @@ places-told l i zero h = sym (drop-of-length-le l {i = i} (omega arith))
 places-told l i (suc n) h =
     ap (λ (t : List ℕ). getD l i 0 ∷ t) (places-told l (suc i) n (omega arith)) ∙ sym (drop-cons l i 0 (omega arith))
 
-report-told : (r : Report) → answerFrom (numberOf (r .answer)) (productionOf (r .answer)) ≡ r .answer → length (r .root) ≡ 7
+report-told : (r : Report) → answerFrom (numberOf (r .answer)) (valueOf (r .answer)) ≡ r .answer → length (r .root) ≡ 7
     → unflat (flat r) ≡ r
 unfolding upFrom
 report-told r h l =
     let root = places-told (r .root) 0 7 l in
     λ j. record { answer = h j; closures = r .closures; entries = r .entries; passes = r .passes; root = root j }
 
-module _ (bs : List ℕ) (good : refusal bs ≡ 0) where
+module _ (bs : List ℕ) (good : refusal bs ≡ Good) where
   kids-few : (p : ℕ) → kidsIn bs p ≤ 7
   kids-few p =
       let slots = slots-seven bs p in
@@ -155,7 +167,7 @@ module _ (bs : List ℕ) (good : refusal bs ≡ 0) where
 
   said-told : (limit room : ℕ) (o : Outcome) (a : Answer)
       → runs.Says (systemIn bs) (In (byNumber (grammarOf bs))) limit room o a
-      → (answerFrom (numberOf a) (productionOf a) ≡ a) × (length (o .report .root) ≡ 7)
+      → (answerFrom (numberOf a) (valueOf a) ≡ a) × (length (o .report .root) ≡ 7)
   unfolding numbered
   said-told limit room o Noncircular s = (refl, ap length (s .1))
   said-told limit room o (Circular p) s =
@@ -167,7 +179,7 @@ module _ (bs : List ℕ) (good : refusal bs ≡ 0) where
 pub numbers-tell : NumbersTell
 numbers-tell bs limit room = go (either bs)
   where
-    go : (refusal bs ≡ 0) ⊎ ((k : ℕ) × Breaks bs k) → unflat (flat (back bs limit room .report)) ≡ back bs limit room .report
+    go : (refusal bs ≡ Good) ⊎ ((k : Broken) × Breaks bs k) → unflat (flat (back bs limit room .report)) ≡ back bs limit room .report
     go (inl good) =
         let t = said-told bs good limit room (back bs limit room) (answer bs limit room) (sound bs good limit room .says) in
         report-told (back bs limit room .report) (t .0) (t .1)

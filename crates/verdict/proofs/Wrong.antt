@@ -4,6 +4,7 @@ use mathlib.Core.Bool.{true≢false}
 use Prim.Native.Nat.{ℕ}
 use native.Mathlib.Omega.{arith}
 use lib.ListN.{length}
+use Rattle.grammar.specs.declared.Broken.the-variants.{Rule}
 use Rattle.grammar.specs.Table.{grammarOf}
 use Rattle.trees.specs.Tree.{Tree}
 use Rattle.trees.specs.Evaluator.{Evaluator}
@@ -136,8 +137,8 @@ abbrev quick : Answer → Outcome
 quick a = outcome a noRoot empty 1
 
 pub there-are :
-    RefusesEvery (constantly (quick (Refused 1))) × AlwaysOutOfSteps (constantly (quick OutOfSteps))
+    RefusesEvery (constantly (quick (Refused (Rule 1)))) × AlwaysOutOfSteps (constantly (quick OutOfSteps))
     × AlwaysOutOfRoom (constantly (quick OutOfRoom)) × AlwaysNoncircular (constantly (quick Noncircular))
     × AlwaysCircular (constantly (quick (Circular 0))) × AlwaysCounts 0 (constantly (quick Noncircular))
 there-are =
-    (λ bs limit room. (1, refl), λ bs limit room. refl, λ bs limit room. refl, λ bs limit room. refl, λ bs limit room. (0, refl), λ bs limit room. refl)
+    (λ bs limit room. (Rule 1, refl), λ bs limit room. refl, λ bs limit room. refl, λ bs limit room. refl, λ bs limit room. (0, refl), λ bs limit room. refl)

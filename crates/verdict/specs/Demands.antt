@@ -17,6 +17,7 @@ use Rattle.trees.specs.Tree.{Tree, rootSymbol, Instance, here, Complete, InTabl
 use Rattle.trees.specs.Evaluator.{Computed, left, notGiven, MayTake, StandsStill, Reached, Position, Evaluator, play}
 use Rattle.trees.specs.Record as record-of-trees
 use Rattle.trees.specs.Record.{shownEntry, shown, pairs}
+use Rattle.grammar.specs.declared.Broken.{Broken}
 use Rattle.rules.specs.declared.Answer.{Answer}
 use Rattle.rules.specs.declared.Answer.the-variants.{Noncircular, Circular, Refused, OutOfSteps, OutOfRoom}
 use Rattle.rules.specs.declared.Entry.{Entry}
@@ -40,7 +41,7 @@ abbrev pub answer : List ℕ → ℕ → ℕ → Answer
 answer bs limit room = said (back bs limit room)
 
 abbrev pub NoRuleBroken : List ℕ → Type 0
-NoRuleBroken bs = (k : ℕ) → ¬ Breaks bs k
+NoRuleBroken bs = (b : Broken) → ¬ Breaks bs b
 
 -- a finite complete tree of the table's grammar, rooted at any symbol
 abbrev pub TreeOf : List ℕ → Tree → Type 0
@@ -100,12 +101,12 @@ abbrev pub shownTree : List ℕ → Outcome → ℕ → Tree
 shownTree bs o p = shown (entryOf bs o) p (kidsOf (grammarOf bs) p (o .report .root))
 
 -- ---- demand 1: a bad table is refused by number, and no other; then nothing is counted or stored
-pub record RefusedExactly (bs : List ℕ) (k : ℕ) (o : Outcome) : Type 0 where
-  pub exactly : (said o ≡ Refused k) ↔ Breaks bs k
-  pub nothing : Breaks bs k → o ≡ outcome (Refused k) noRoot empty 0
+pub record RefusedExactly (bs : List ℕ) (b : Broken) (o : Outcome) : Type 0 where
+  pub exactly : (said o ≡ Refused b) ↔ Breaks bs b
+  pub nothing : Breaks bs b → o ≡ outcome (Refused b) noRoot empty 0
 
 abbrev pub RefusedExactlyAlways : Version → Type 0
-RefusedExactlyAlways v = (bs : List ℕ) (limit room k : ℕ) → RefusedExactly bs k (v bs limit room)
+RefusedExactlyAlways v = (bs : List ℕ) (limit room : ℕ) (b : Broken) → RefusedExactly bs b (v bs limit room)
 
 -- ---- demand 2: the verdict
 

@@ -4,6 +4,7 @@ use mathlib.Core.List.{List}
 use mathlib.Core.Path.{_≡_}
 use Prim.Native.Nat.{ℕ, _*_, _≤_, _<_}
 use lib.ListN.{length, getD, take, drop}
+use Rattle.grammar.specs.declared.Broken.{Broken}
 use Rattle.grammar.specs.Rules.{Breaks}
 use Rattle.trees.specs.Tree.{Tree}
 use Rattle.rules.specs.declared.Answer.the-variants.{Noncircular, Circular, OutOfSteps}
@@ -36,7 +37,7 @@ pub record LongAsBefore (σ τ : Slices) : Type 0 where
 -- all that is asked of one outcome, for a limit and a room R
 pub record Demanded (bs : List ℕ) (limit R : ℕ) (o : Outcome) : Type 0 where
   -- 1: refused by number exactly
-  pub refused : (k : ℕ) → RefusedExactly bs k o
+  pub refused : (b : Broken) → RefusedExactly bs b o
   -- every entry means a tree
   pub entries : (k : ℕ) → k < length (o .entries) → EntryShown bs k o
   -- 2: circular with a tree that is shown, noncircular only if no tree has a circle, 8 and 9 exactly
@@ -58,6 +59,6 @@ pub record Program (bs : List ℕ) (limit : ℕ) (σ : Slices) (r : Report) (τ 
   pub rest : RestBefore (r .entries) σ τ
   -- however many places are lent, those beyond 4,096 entries are never used
   pub beyond : RestBefore 4096 σ τ
-  pub untouched : (k : ℕ) → Breaks bs k → τ ≡ σ
+  pub untouched : (b : Broken) → Breaks bs b → τ ≡ σ
   pub whole : readOut r τ ≡ back bs limit (roomOf σ)
   pub demanded : Demanded bs limit (roomOf σ) (readOut r τ)

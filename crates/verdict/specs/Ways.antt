@@ -19,12 +19,14 @@ use denote.Ref.{now}
 use denote.Triple.Clauses.{AtExit}
 use denote.Triple.Entry.{Args, Res}
 use borrow.Fn.Kinds.{Dens, endedOf, resT}
+use Rattle.grammar.specs.declared.Broken.{Broken}
+use Rattle.grammar.specs.declared.Broken.the-variants.{Record}
 use Rattle.grammar.specs.Rules.{Breaks}
 use Rattle.rules.specs.declared.Answer.{Answer}
-use Rattle.rules.specs.declared.Answer.the-variants.{Noncircular, Circular}
+use Rattle.rules.specs.declared.Answer.the-variants.{Noncircular, Circular, Refused}
 use Rattle.rules.specs.declared.Report.{Report}
 use Rattle.rules.specs.declared.Entry.{Entry}
-use Rattle.rules.specs.Passes.{Outcome, numbered, entry}
+use Rattle.rules.specs.Passes.{Outcome, numbered, noValue, entry}
 use Rattle.texts.specs.Lines.{kidsIn, printed}
 use Rattle.passes.specs.Slices.{Slices, slices}
 use Rattle.passes.proofs.test.Kinds as slices-kinds
@@ -73,7 +75,7 @@ pub record RowProgram (bs : List ℕ) (limit : ℕ) (before : List Entry) (r : R
   pub rest : drop (r .entries) after ≡ drop (r .entries) before
   -- however many records are lent, those beyond 4,096 are never used
   pub beyond : drop 4096 after ≡ drop 4096 before
-  pub untouched : (k : ℕ) → Breaks bs k → after ≡ before
+  pub untouched : (b : Broken) → Breaks bs b → after ≡ before
   pub whole : readRow r after ≡ back bs limit (roomOf before)
   pub demanded : Demanded bs limit (roomOf before) (readRow r after)
 
@@ -88,9 +90,12 @@ RowAlways =
 
 -- ---- where Rust and C call it: `kusillaqe::kusillaqe_test`, with the same parameters as `passes::test` and one for twelve numbers
 
--- how a caller reads the answer, from its number and the number beside it: 0 is noncircular, 255 circular, any other the rules' number
+-- how a caller reads the answer, from its number and the value beside it: 0 is noncircular, 255 circular, any other the rules' number, with
+-- a record where the value is one
 abbrev pub answerFrom : ℕ → ℕ → Answer
-answerFrom number p = cond (eqb number 0) Noncircular (cond (eqb number 255) (Circular p) (numbered number))
+answerFrom number value =
+    cond (eqb number 0) Noncircular
+    (cond (eqb number 255) (Circular value) (cond (eqb value noValue) (numbered number) (Refused (Record number value))))
 
 -- and the report from the twelve
 abbrev pub unflat : List ℕ → Report
@@ -145,9 +150,9 @@ TextTells =
 
 abbrev pub TouchedFalls : Type 0
 TouchedFalls =
-    (bs : List ℕ) (limit k : ℕ) (σ : Slices) (r : Report) (τ : Slices) → Breaks bs k → ¬ (τ ≡ σ) → ¬ Program bs limit σ r τ
+    (bs : List ℕ) (limit : ℕ) (b : Broken) (σ : Slices) (r : Report) (τ : Slices) → Breaks bs b → ¬ (τ ≡ σ) → ¬ Program bs limit σ r τ
 
 abbrev pub TouchedRowFalls : Type 0
 TouchedRowFalls =
-    (bs : List ℕ) (limit k : ℕ) (before : List Entry) (r : Report) (after : List Entry) → Breaks bs k → ¬ (after ≡ before)
+    (bs : List ℕ) (limit : ℕ) (b : Broken) (before : List Entry) (r : Report) (after : List Entry) → Breaks bs b → ¬ (after ≡ before)
     → ¬ RowProgram bs limit before r after

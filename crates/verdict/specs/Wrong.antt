@@ -1,18 +1,17 @@
 -- Wrong versions of the test, each told by what it always does. Assumes nothing.
-use mathlib.Core.Bool.{cond}
 use mathlib.Core.List.{List, []}
 use mathlib.Core.Path.{_≡_}
 use Prim.Native.Nat.{ℕ, _≤_}
-use lib.Dec.{eqb}
+use Rattle.grammar.specs.declared.Broken.{Broken}
 use Rattle.grammar.specs.Table.{grammarOf}
 use Rattle.grammar.specs.Refusal.{refusal}
 use Rattle.rules.specs.declared.Answer.the-variants.{Noncircular, Circular, Refused, OutOfSteps, OutOfRoom}
-use Rattle.rules.specs.Passes.{Outcome, outcome, numbered, noRoot, pass, after, empty}
-use Rattle.rules.specs.Test.{systemIn, byNumber}
+use Rattle.rules.specs.Passes.{Outcome, outcome, noRoot, pass, after, empty}
+use Rattle.rules.specs.Test.{systemIn, byNumber, afterCheck}
 use Rattle.verdict.specs.Demands.{Version, said}
 
 abbrev pub RefusesEvery : Version → Type 0
-RefusesEvery v = (bs : List ℕ) (limit room : ℕ) → (k : ℕ) × (said (v bs limit room) ≡ Refused k)
+RefusesEvery v = (bs : List ℕ) (limit room : ℕ) → (b : Broken) × (said (v bs limit room) ≡ Refused b)
 
 abbrev pub AlwaysOutOfSteps : Version → Type 0
 AlwaysOutOfSteps v = (bs : List ℕ) (limit room : ℕ) → said (v bs limit room) ≡ OutOfSteps
@@ -35,9 +34,8 @@ BeginsOnePass bs limit room v = v bs limit room .report .passes ≤ 1
 -- one honest pass, and then noncircular
 abbrev pub onePass : Version
 onePass bs limit room =
-    cond (eqb (refusal bs) 0)
+    afterCheck (refusal bs)
     (after empty 1 (pass (systemIn bs) limit room (byNumber (grammarOf bs)) empty) (λ s. outcome Noncircular noRoot s 1))
-    (outcome (numbered (refusal bs)) noRoot empty 0)
 
 -- the count of closures is the invented number n
 abbrev pub AlwaysCounts : ℕ → Version → Type 0
