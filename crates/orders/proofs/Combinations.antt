@@ -11,8 +11,8 @@ use borrow.Author.Tests.{eqb-true, eq-eqb}
 use Rattle.numbers.specs.Lists.{upFrom}
 use Rattle.numbers.proofs.Members.{at-cons, keep-at, keep-mem, upFrom-at, upFrom-mem}
 use Rattle.rules.specs.declared.Entry.{Entry}
-use Rattle.rules.specs.Passes.{System, noEntry, entry, graphs, seven, candidates, prefixed, combinations}
-use Rattle.orders.specs.Stored.{FitsIn, Combination, counting}
+use Rattle.rules.specs.Passes.{System, noEntry, entry, graphs, seven, candidates, prefixed, combinations, counting}
+use Rattle.orders.specs.Stored.{FitsIn, Combination}
 
 pub entry-stays : (es more : List Entry) (i : ℕ) → i < length es → entry (es ++ more) i ≡ entry es i
 entry-stays es more i h = List·getD-append es more noEntry i h
@@ -54,7 +54,7 @@ fits-length es P (k ∷ c) (b ∷ bs) f = ap suc (fits-length es P c bs (f .2))
 
 -- the slots that count are the combination
 pub counting-seven : (W : System) (es : List Entry) (P : ℕ → Type 0) (p : ℕ) (c : List ℕ) → FitsIn es P c (W .rights p)
-    → counting W p (seven c) ≡ c
+    → counting (W .rights p) (seven c) ≡ c
 unfolding seven
 counting-seven W es P p c f = rw (← fits-length es P c (W .rights p) f) (take-append-seam c _)
 

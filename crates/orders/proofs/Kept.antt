@@ -9,8 +9,8 @@ use native.Mathlib.Decide.{decLt}
 use lib.ListN.{length, length-append}
 use lib.Seq.{getD-append-seam}
 use Rattle.rules.specs.declared.Entry.{Entry}
-use Rattle.rules.specs.Passes.{System, noEntry, entry, graphs, seven}
-use Rattle.orders.specs.Stored.{FitsIn, Combination, counting, kidGraphs, Slots, Made}
+use Rattle.rules.specs.Passes.{System, noEntry, entry, graphs, seven, counting}
+use Rattle.orders.specs.Stored.{FitsIn, Combination, kidGraphs, Slots, Made}
 use Rattle.orders.specs.Modes.{needless, fresh, newEntry, Mode, Covered, Later, Settled, Shown, settled, added, Lawful}
 use Rattle.orders.proofs.Combinations.{entry-stays, fits-map, fits-more, graphs-stay, counting-seven}
 use Rattle.orders.proofs.Points.{size, Goes, passed, stored}
@@ -25,15 +25,15 @@ module _ (W : System) (Part : ℕ → Type 0) where
         part = k .part;
         rest = k .rest;
         fits =
-            fits-map (es ++ more) (λ i. i < n) (λ i. i < m) (λ i h. omega arith) (counting W p slots) (W .rights p)
-            (fits-more es more (λ i. i < n) (λ i h. omega arith) (counting W p slots) (W .rights p) (k .fits));
+            fits-map (es ++ more) (λ i. i < n) (λ i. i < m) (λ i h. omega arith) (counting (W .rights p) slots) (W .rights p)
+            (fits-more es more (λ i. i < n) (λ i h. omega arith) (counting (W .rights p) slots) (W .rights p) (k .fits));
       }
 
   -- what a production with its slots stands for does not change where entries are added
   pub kid-graphs-stay : (es more : List Entry) (n p : ℕ) (slots : List ℕ) → n ≤ length es → Slots W Part es n p slots
       → kidGraphs W (es ++ more) p slots ≡ kidGraphs W es p slots
   kid-graphs-stay es more n p slots l k =
-      graphs-stay es more (λ i. i < n) (λ i h. omega arith) (counting W p slots) (W .rights p) (k .fits)
+      graphs-stay es more (λ i. i < n) (λ i h. omega arith) (counting (W .rights p) slots) (W .rights p) (k .fits)
 
   pub made-more : (es more : List Entry) (k : ℕ) (e : Entry) → k ≤ length es → Made W Part es k e → Made W Part (es ++ more) k e
   made-more es more k e l m =

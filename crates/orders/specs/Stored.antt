@@ -3,10 +3,10 @@ use mathlib.Core.Path.{_≡_}
 use mathlib.Core.Bool.{true, false}
 use mathlib.Core.List.{List, List·Memᴰ}
 use Prim.Native.Nat.{ℕ, _<_}
-use lib.ListN.{length, take}
+use lib.ListN.{length}
 use Rattle.grammar.specs.Fits.{Fits}
 use Rattle.rules.specs.declared.Entry.{Entry}
-use Rattle.rules.specs.Passes.{System, entry, graphs, seven}
+use Rattle.rules.specs.Passes.{System, entry, graphs, seven, counting}
 
 -- the productions of a list
 abbrev pub In : List ℕ → ℕ → Type 0
@@ -20,19 +20,15 @@ FitsIn es P = Fits P (λ k. entry es k .symbol)
 abbrev pub Combination : List Entry → ℕ → List ℕ → List ℕ → Type 0
 Combination es n = FitsIn es (λ i. i < n)
 
--- the slots that count: one for each right symbol
-abbrev pub counting : System → ℕ → List ℕ → List ℕ
-counting W p slots = take (length (W .rights p)) slots
-
 -- the graphs of the entries in these slots
 abbrev pub kidGraphs : System → List Entry → ℕ → List ℕ → List ℕ
-kidGraphs W es p slots = graphs es (counting W p slots)
+kidGraphs W es p slots = graphs es (counting (W .rights p) slots)
 
 -- the production p takes part, and its slots hold a combination of the entries below n, and 0 from there on
 pub record Slots (W : System) (Part : ℕ → Type 0) (es : List Entry) (n p : ℕ) (slots : List ℕ) : Type 0 where
   pub part : Part p
-  pub rest : slots ≡ seven (counting W p slots)
-  pub fits : Combination es n (counting W p slots) (W .rights p)
+  pub rest : slots ≡ seven (counting (W .rights p) slots)
+  pub fits : Combination es n (counting (W .rights p) slots) (W .rights p)
 
 -- the entry number k is made by its production over earlier entries
 pub record Made (W : System) (Part : ℕ → Type 0) (es : List Entry) (k : ℕ) (e : Entry) : Type 0 where

@@ -3,7 +3,7 @@ use mathlib.Core.Bool.{Bool, true, false, _||_, cond}
 use mathlib.Core.List.{List, [], _∷_, _++_, map}
 use Prim.Native.Nat.{ℕ, zero, suc, _-_}
 use lib.Dec.{leb, eqb}
-use lib.ListN.{length, getD, replicate}
+use lib.ListN.{length, getD, take, replicate}
 use Rattle.numbers.specs.Lists.{both, upFrom, keep}
 use Rattle.grammar.specs.declared.Broken.the-variants.{Rule, Record}
 use Rattle.rules.specs.declared.Answer.{Answer}
@@ -65,6 +65,10 @@ valueOf OutOfRoom = noValue
 -- seven slots, the unused ones 0
 unfoldable pub seven : List ℕ → List ℕ
 seven xs = xs ++ replicate (7 - length xs) 0
+
+-- of seven slots those that count, one for each of the right symbols
+abbrev pub counting : List ℕ → List ℕ → List ℕ
+counting rights slots = take (length rights) slots
 
 abbrev pub noRoot : List ℕ
 noRoot = replicate 7 0

@@ -16,7 +16,7 @@ use Rattle.grammar.specs.Rules.{GoodEdge}
 use Rattle.trees.specs.Tree.{Tree, node, Kids, nil, cons, Complete, OneEach, InTable, Instance, here, under, at, instanceOf, instances, Link, Own, Joined, TreeEdge, KidEdge, Circular, WellFormed, AtMost}
 use Rattle.graph.specs.Compound.{CompoundEdge}
 use Rattle.trees.specs.Record.{Entry, shown}
-use Rattle.trees.specs.Small.{edge, withEdges, grammarA, grammarB, grammarC, zeroOverOne}
+use Rattle.trees.specs.Small.{smallEdge, withEdges, grammarA, grammarB, grammarC, zeroOverOne}
 use Rattle.numbers.proofs.Members.{at-cons}
 use Rattle.trees.proofs.Paths.{no-circle}
 
@@ -46,10 +46,10 @@ pub edges-B :
     × TreeEdge grammarB zeroOverOne (at 1 1) (at 1 3)
     × TreeEdge grammarB zeroOverOne (at 1 3) (at 1 0)
 edges-B = (
-  Joined.kid {i = 0} (Joined.own (linked (edge 1 0 0 0 2) (List·Memᴰ·tail (List·Memᴰ·tail (List·Memᴰ·head refl))))),
-  Joined.own (linked (edge 0 1 2 1 1) (List·Memᴰ·head refl)),
-  Joined.kid {i = 0} (Joined.own (linked (edge 1 0 1 0 3) (List·Memᴰ·tail (List·Memᴰ·tail (List·Memᴰ·tail (List·Memᴰ·head refl)))))),
-  Joined.own (linked (edge 0 1 3 1 0) (List·Memᴰ·tail (List·Memᴰ·head refl))),
+  Joined.kid {i = 0} (Joined.own (linked (smallEdge 1 0 0 0 2) (List·Memᴰ·tail (List·Memᴰ·tail (List·Memᴰ·head refl))))),
+  Joined.own (linked (smallEdge 0 1 2 1 1) (List·Memᴰ·head refl)),
+  Joined.kid {i = 0} (Joined.own (linked (smallEdge 1 0 1 0 3) (List·Memᴰ·tail (List·Memᴰ·tail (List·Memᴰ·tail (List·Memᴰ·head refl)))))),
+  Joined.own (linked (smallEdge 0 1 3 1 0) (List·Memᴰ·tail (List·Memᴰ·head refl))),
 )
 
 pub circle-B : Circle (TreeEdge grammarB zeroOverOne)
@@ -67,9 +67,9 @@ pub numbered-B :
 unfolding keep
 numbered-B = (
   inr (record { k = 0; given = omega arith; pair = record { a = 0; b = 2; a-lt = omega arith; b-lt = omega arith; from = refl; to = refl; there = refl } }),
-  inl (record { edge = edge 0 1 2 1 1; given = List·Memᴰ·head refl; from = refl; to = refl }),
+  inl (record { edge = smallEdge 0 1 2 1 1; given = List·Memᴰ·head refl; from = refl; to = refl }),
   inr (record { k = 0; given = omega arith; pair = record { a = 1; b = 3; a-lt = omega arith; b-lt = omega arith; from = refl; to = refl; there = refl } }),
-  inl (record { edge = edge 0 1 3 1 0; given = List·Memᴰ·tail (List·Memᴰ·head refl); from = refl; to = refl }),
+  inl (record { edge = smallEdge 0 1 3 1 0; given = List·Memᴰ·tail (List·Memᴰ·head refl); from = refl; to = refl }),
 )
 
 -- the entries that the passes store for B, of which the second is not used
@@ -95,7 +95,7 @@ rank (under i x) = rank x
 
 -- whichever edge of A it is
 cases-A :
-    (P : Edge → Type 0) → P (edge 0 1 2 1 1) → P (edge 0 1 3 1 0) → P (edge 1 0 0 0 2) → P (edge 2 0 1 0 3)
+    (P : Edge → Type 0) → P (smallEdge 0 1 2 1 1) → P (smallEdge 0 1 3 1 0) → P (smallEdge 1 0 0 0 2) → P (smallEdge 2 0 1 0 3)
     → (e : Edge) → List·Memᴰ e (grammarA .edges) → P e
 cases-A P a b c d e = at-cons P a (at-cons P b (at-cons P c (at-cons P d (λ m. absurd (List·Memᴰ·not-nil m)))))
 
@@ -123,7 +123,7 @@ no-circle-A = no-circle rank edge-up
 
 -- its production has a circle in its own edges, but no tree is ever complete
 pub own-circle-C : Circle (Own grammarC 0)
-own-circle-C = (at 1 0, one (linked (edge 0 1 0 1 0) (List·Memᴰ·head refl)))
+own-circle-C = (at 1 0, one (linked (smallEdge 0 1 0 1 0) (List·Memᴰ·head refl)))
 
 mutual
   no-tree-C : (t : Tree) → ¬ Complete grammarC (InTable grammarC) t
@@ -152,7 +152,7 @@ at-most-eight es s = at-cons P (omega arith) (at-cons P (omega arith) (λ m. abs
 
 -- a target is inherited where it belongs to the right symbol, and synthesized where it belongs to the left one
 module _ (es : List Edge) (a b : ℕ) (la : a < 4) (lb : b < 4) where
-  good-0 : bit b 3 ≡ 1 → GoodEdge (withEdges es) (edge 0 1 a 1 b)
+  good-0 : bit b 3 ≡ 1 → GoodEdge (withEdges es) (smallEdge 0 1 a 1 b)
   unfolding symbolAt
   good-0 h =
       record {
@@ -162,7 +162,7 @@ module _ (es : List Edge) (a b : ℕ) (la : a < 4) (lb : b < 4) where
         allowed = h;
       }
 
-  good-1 : bit b 3 ≡ 0 → GoodEdge (withEdges es) (edge 1 0 a 0 b)
+  good-1 : bit b 3 ≡ 0 → GoodEdge (withEdges es) (smallEdge 1 0 a 0 b)
   unfolding symbolAt
   good-1 h =
       record {
@@ -172,7 +172,7 @@ module _ (es : List Edge) (a b : ℕ) (la : a < 4) (lb : b < 4) where
         allowed = h;
       }
 
-  good-2 : bit b 3 ≡ 0 → GoodEdge (withEdges es) (edge 2 0 a 0 b)
+  good-2 : bit b 3 ≡ 0 → GoodEdge (withEdges es) (smallEdge 2 0 a 0 b)
   unfolding symbolAt
   good-2 h =
       record {

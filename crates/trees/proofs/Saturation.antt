@@ -8,7 +8,7 @@ use Rattle.numbers.specs.Paths.{Circle}
 use Rattle.grammar.specs.Grammar.{Grammar, production, rights}
 use Rattle.trees.specs.Tree.{Tree, node, Kids, nil, cons, rootSymbol, Complete, OneEach, TreeEdge, KidEdge, Circular}
 use Rattle.trees.specs.Compound.{IsGraph, AreGraphs}
-use Rattle.trees.specs.Record.{Entry, Combination, graphs, Stored, Saturated}
+use Rattle.trees.specs.Record.{Entry, KidsBelow, graphsAt, Stored, Saturated}
 use Rattle.trees.proofs.Paths.{first-edge}
 use Rattle.trees.proofs.Graphs.{makes-graph, graphs-circle}
 
@@ -19,8 +19,8 @@ module _ (g : Grammar) {Graph : Type 0} (Holds : Graph → ℕ → ℕ → Type 
 
   record SettledKids (ks : Kids) (ss : List ℕ) : Type 0 where
     numbers : List ℕ
-    fits : Combination entry count numbers ss
-    graphs-are : AreGraphs g Holds (graphs entry numbers) ks
+    fits : KidsBelow entry count numbers ss
+    graphs-are : AreGraphs g Holds (graphsAt entry numbers) ks
     no-circle : (i : ℕ) → ¬ Circle (KidEdge g ks i)
 
   module _ (saturated : Saturated g Holds Part entry count) where
@@ -33,12 +33,12 @@ module _ (g : Grammar) {Graph : Type 0} (Holds : Graph → ℕ → ℕ → Type 
                 number = k .number;
                 among = k .among;
                 symbol = k .symbol;
-                graph = makes-graph g Holds p (graphs entry (h .numbers)) ks (h .graphs-are) (entry (k .number) .graph) (k .graph);
+                graph = makes-graph g Holds p (graphsAt entry (h .numbers)) ks (h .graphs-are) (entry (k .number) .graph) (k .graph);
               };
           no-circle =
               λ c.
               ⊎-elim (saturated .no-circle p part (h .numbers) (h .fits)) (λ r. h .no-circle (r .0) (r .1))
-              (graphs-circle g Holds p (graphs entry (h .numbers)) ks (h .graphs-are) .0 c);
+              (graphs-circle g Holds p (graphsAt entry (h .numbers)) ks (h .graphs-are) .0 c);
         }
 
     no-kids : (i : ℕ) → ¬ Circle (KidEdge g nil i)

@@ -10,20 +10,20 @@ use Rattle.numbers.specs.Paths.{Circle}
 use Rattle.grammar.specs.Grammar.{Grammar, production, rights}
 use Rattle.trees.specs.Tree.{Tree, node, cons, Complete, OneEach, TreeEdge, WellFormed}
 use Rattle.trees.specs.Compound.{OverGraphs, Makes, AreGraphs}
-use Rattle.trees.specs.Record.{Entry, row, levels, shownEntry, shown, Combination, graphs, Derived, Shows}
+use Rattle.trees.specs.Record.{Entry, row, levels, shownEntry, shown, KidsBelow, graphsAt, Derived, Shows}
 use Rattle.numbers.proofs.Members.{at-cons}
 use Rattle.trees.proofs.Values.{length-rights}
 use Rattle.trees.proofs.Graphs.{makes-graph, graphs-circle}
 
 -- there is a graph for each right symbol
-fits-length : {Graph : Type 0} (entry : ℕ → Entry Graph) (n : ℕ) (ks ss : List ℕ) → Combination entry n ks ss → length ks ≡ length ss
+fits-length : {Graph : Type 0} (entry : ℕ → Entry Graph) (n : ℕ) (ks ss : List ℕ) → KidsBelow entry n ks ss → length ks ≡ length ss
 fits-length entry n [] [] w = refl
 fits-length entry n [] (s ∷ ss) w = absurd w
 fits-length entry n (k ∷ ks) [] w = absurd w
 fits-length entry n (k ∷ ks) (s ∷ ss) (l, e, w) = ap suc (fits-length entry n ks ss w)
 
 -- the numbers are below n
-pub fits-below : {Graph : Type 0} (entry : ℕ → Entry Graph) (n : ℕ) (ks ss : List ℕ) → Combination entry n ks ss → (j : ℕ) → List·Memᴰ j ks → j < n
+pub fits-below : {Graph : Type 0} (entry : ℕ → Entry Graph) (n : ℕ) (ks ss : List ℕ) → KidsBelow entry n ks ss → (j : ℕ) → List·Memᴰ j ks → j < n
 fits-below entry n [] [] w j m = absurd (List·Memᴰ·not-nil m)
 fits-below entry n [] (s ∷ ss) w j m = absurd w
 fits-below entry n (k ∷ ks) [] w j m = absurd w
@@ -31,7 +31,7 @@ fits-below entry n (k ∷ ks) (s ∷ ss) (l, e, w) j m = at-cons (λ i. i < n) l
 
 pub graphs-count :
     (g : Grammar) → WellFormed g → {Graph : Type 0} (entry : ℕ → Entry Graph) (n p : ℕ) (ks : List ℕ)
-    → Combination entry n ks (rights (production g p)) → length (graphs entry ks) ≡ production g p .n
+    → KidsBelow entry n ks (rights (production g p)) → length (graphsAt entry ks) ≡ production g p .n
 graphs-count g formed entry n p ks w =
     length-map ks (λ k. entry k .graph) ∙ fits-length entry n ks (rights (production g p)) w ∙ length-rights g formed p
 
@@ -42,8 +42,8 @@ module _ (g : Grammar) {Graph : Type 0} (Holds : Graph → ℕ → ℕ → Type 
 
   row-shows :
       (tree : ℕ → Tree) (n : ℕ) → ((k : ℕ) → k < n → ShowsEntry k (tree k))
-      → (ks ss : List ℕ) → Combination entry n ks ss
-      → OneEach g Part (row tree ks) ss × AreGraphs g Holds (graphs entry ks) (row tree ks)
+      → (ks ss : List ℕ) → KidsBelow entry n ks ss
+      → OneEach g Part (row tree ks) ss × AreGraphs g Holds (graphsAt entry ks) (row tree ks)
   row-shows tree n h [] [] w = (tt, tt)
   row-shows tree n h [] (s ∷ ss) w = absurd w
   row-shows tree n h (k ∷ ks) [] w = absurd w
@@ -55,24 +55,24 @@ module _ (g : Grammar) {Graph : Type 0} (Holds : Graph → ℕ → ℕ → Type 
   -- a production over trees of entries
   module _
       (tree : ℕ → Tree) (n : ℕ) (shows : (k : ℕ) → k < n → ShowsEntry k (tree k))
-      (p : ℕ) (ks : List ℕ) (part : Part p) (fits : Combination entry n ks (rights (production g p))) where
-    row-graphs : AreGraphs g Holds (graphs entry ks) (row tree ks)
+      (p : ℕ) (ks : List ℕ) (part : Part p) (fits : KidsBelow entry n ks (rights (production g p))) where
+    row-graphs : AreGraphs g Holds (graphsAt entry ks) (row tree ks)
     row-graphs = row-shows tree n shows ks (rights (production g p)) fits .1
 
     node-complete : Complete g Part (node p (row tree ks))
     node-complete = (part, row-shows tree n shows ks (rights (production g p)) fits .0)
 
     node-shows :
-        (graph : Graph) → Makes g Holds p (graphs entry ks) graph → Shows g Holds Part (production g p .left) graph (node p (row tree ks))
+        (graph : Graph) → Makes g Holds p (graphsAt entry ks) graph → Shows g Holds Part (production g p .left) graph (node p (row tree ks))
     node-shows graph m =
         record {
           complete = node-complete;
           symbol = refl;
-          is-graph = makes-graph g Holds p (graphs entry ks) (row tree ks) row-graphs graph m;
+          is-graph = makes-graph g Holds p (graphsAt entry ks) (row tree ks) row-graphs graph m;
         }
 
-    node-circle : Circle (OverGraphs g Holds p (graphs entry ks)) → Circle (TreeEdge g (node p (row tree ks)))
-    node-circle c = graphs-circle g Holds p (graphs entry ks) (row tree ks) row-graphs .1 (inl c)
+    node-circle : Circle (OverGraphs g Holds p (graphsAt entry ks)) → Circle (TreeEdge g (node p (row tree ks)))
+    node-circle c = graphs-circle g Holds p (graphsAt entry ks) (row tree ks) row-graphs .1 (inl c)
 
   -- the first `count` entries are each made by a production over earlier entries
   module _ (count : ℕ) (derived : (k : ℕ) → k < count → Derived g Holds Part entry k) where
@@ -88,23 +88,23 @@ module _ (g : Grammar) {Graph : Type 0} (Holds : Graph → ℕ → ℕ → Type 
     pub entry-shown : (k : ℕ) → k < count → Shows g Holds Part (entry k .symbol) (entry k .graph) (shownEntry entry k)
     entry-shown k l = levels-show (suc k) k (omega arith) l
 
-    module _ (p : ℕ) (ks : List ℕ) (part : Part p) (fits : Combination entry count ks (rights (production g p))) where
+    module _ (p : ℕ) (ks : List ℕ) (part : Part p) (fits : KidsBelow entry count ks (rights (production g p))) where
       pub shown-complete : Complete g Part (shown entry p ks)
       shown-complete = node-complete (shownEntry entry) count entry-shown p ks part fits
 
       -- its graph is what the production makes of its entries' graphs
       pub shown-graph :
-          (graph : Graph) → Makes g Holds p (graphs entry ks) graph
+          (graph : Graph) → Makes g Holds p (graphsAt entry ks) graph
           → Shows g Holds Part (production g p .left) graph (shown entry p ks)
       shown-graph = node-shows (shownEntry entry) count entry-shown p ks part fits
 
       -- a circle of the root's compound graph over its entries' graphs is in the shown tree
-      pub shown-circle : Circle (OverGraphs g Holds p (graphs entry ks)) → Circle (TreeEdge g (shown entry p ks))
+      pub shown-circle : Circle (OverGraphs g Holds p (graphsAt entry ks)) → Circle (TreeEdge g (shown entry p ks))
       shown-circle = node-circle (shownEntry entry) count entry-shown p ks part fits
 
     -- ---- the shown tree of an entry is its production over the shown trees of its entry numbers
 
-    same-row : (s t : ℕ → Tree) (n : ℕ) → ((k : ℕ) → k < n → s k ≡ t k) → (ks ss : List ℕ) → Combination entry n ks ss → row s ks ≡ row t ks
+    same-row : (s t : ℕ → Tree) (n : ℕ) → ((k : ℕ) → k < n → s k ≡ t k) → (ks ss : List ℕ) → KidsBelow entry n ks ss → row s ks ≡ row t ks
     same-row s t n h [] [] w = refl
     same-row s t n h [] (x ∷ ss) w = absurd w
     same-row s t n h (k ∷ ks) [] w = absurd w

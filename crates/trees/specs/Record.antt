@@ -37,11 +37,11 @@ module _ {Graph : Type 0} (entry : ℕ → Entry Graph) where
   shown p ks = node p (row shownEntry ks)
 
   -- one number below n for each right symbol, of an entry with that symbol
-  abbrev pub Combination : ℕ → List ℕ → List ℕ → Type 0
-  Combination n = Fits (λ k. k < n) (λ k. entry k .symbol)
+  abbrev pub KidsBelow : ℕ → List ℕ → List ℕ → Type 0
+  KidsBelow n = Fits (λ k. k < n) (λ k. entry k .symbol)
 
-  abbrev pub graphs : List ℕ → List Graph
-  graphs = map (λ k. entry k .graph)
+  abbrev pub graphsAt : List ℕ → List Graph
+  graphsAt = map (λ k. entry k .graph)
 
   -- the symbol and the graph of each of the first `count` entries
   abbrev pub pairs : ℕ → List (ℕ × Graph)
@@ -70,14 +70,14 @@ module _ (g : Grammar) {Graph : Type 0} (Holds : Graph → ℕ → ℕ → Type 
     pub record Derived (k : ℕ) : Type 0 where
       pub part : Part (entry k .production)
       pub left : production g (entry k .production) .left ≡ entry k .symbol
-      pub right : Combination entry k (entry k .kids) (rights (production g (entry k .production)))
-      pub made : Makes g Holds (entry k .production) (graphs entry (entry k .kids)) (entry k .graph)
+      pub right : KidsBelow entry k (entry k .kids) (rights (production g (entry k .production)))
+      pub made : Makes g Holds (entry k .production) (graphsAt entry (entry k .kids)) (entry k .graph)
 
     -- each production that takes part, over each combination of the first `count` entries, has no circle, and what it makes is stored
     pub record Saturated (count : ℕ) : Type 0 where
       pub no-circle :
-          (p : ℕ) → Part p → (ks : List ℕ) → Combination entry count ks (rights (production g p))
-          → ¬ Circle (OverGraphs g Holds p (graphs entry ks))
+          (p : ℕ) → Part p → (ks : List ℕ) → KidsBelow entry count ks (rights (production g p))
+          → ¬ Circle (OverGraphs g Holds p (graphsAt entry ks))
       pub stored :
-          (p : ℕ) → Part p → (ks : List ℕ) → Combination entry count ks (rights (production g p))
-          → Stored entry count (production g p .left) (Makes g Holds p (graphs entry ks))
+          (p : ℕ) → Part p → (ks : List ℕ) → KidsBelow entry count ks (rights (production g p))
+          → Stored entry count (production g p .left) (Makes g Holds p (graphsAt entry ks))

@@ -8,8 +8,8 @@ use Rattle.grammar.specs.Grammar.{Grammar}
 use Rattle.trees.specs.Tree.{Tree, node, nil, cons}
 
 -- the edge o.a → q.b of the production p
-abbrev pub edge : ℕ → ℕ → ℕ → ℕ → ℕ → Edge
-edge p o a q b =
+abbrev pub smallEdge : ℕ → ℕ → ℕ → ℕ → ℕ → Edge
+smallEdge p o a q b =
     record { production = p; source = record { occurrence = o; attribute = a }; target = record { occurrence = q; attribute = b } }
 
 abbrev pub leaf : Production
@@ -26,11 +26,11 @@ withEdges es =
     }
 
 abbrev pub grammarA : Grammar
-grammarA = withEdges (edge 0 1 2 1 1 ∷ edge 0 1 3 1 0 ∷ edge 1 0 0 0 2 ∷ edge 2 0 1 0 3 ∷ [])
+grammarA = withEdges (smallEdge 0 1 2 1 1 ∷ smallEdge 0 1 3 1 0 ∷ smallEdge 1 0 0 0 2 ∷ smallEdge 2 0 1 0 3 ∷ [])
 
 -- A, and production 1 has also 0.1 → 0.3
 abbrev pub grammarB : Grammar
-grammarB = withEdges (edge 0 1 2 1 1 ∷ edge 0 1 3 1 0 ∷ edge 1 0 0 0 2 ∷ edge 1 0 1 0 3 ∷ edge 2 0 1 0 3 ∷ [])
+grammarB = withEdges (smallEdge 0 1 2 1 1 ∷ smallEdge 0 1 3 1 0 ∷ smallEdge 1 0 0 0 2 ∷ smallEdge 1 0 1 0 3 ∷ smallEdge 2 0 1 0 3 ∷ [])
 
 -- C: one symbol with one inherited attribute; 0 → 0 with 1.0 → 1.0
 abbrev pub grammarC : Grammar
@@ -39,7 +39,7 @@ grammarC =
       start = 0;
       symbols = record { count = 1; mask = 1 } ∷ [];
       productions = record { left = 0; n = 1; slots = replicate 7 0 } ∷ [];
-      edges = edge 0 1 0 1 0 ∷ [];
+      edges = smallEdge 0 1 0 1 0 ∷ [];
     }
 
 -- production 0 over production 1

@@ -16,10 +16,10 @@ use Rattle.trees.specs.Record.{shownEntry, shown, Derived, Shows, OfTree}
 use Rattle.numbers.proofs.Members.{upFrom-at, upFrom-mem}
 use Rattle.trees.proofs.Shown.{fits-below, graphs-count, entry-shown, shown-complete, shown-graph, shown-circle, shown-again}
 use Rattle.rules.specs.declared.Entry.{Entry}
-use Rattle.rules.specs.Passes.{System, entry, graphs}
+use Rattle.rules.specs.Passes.{System, entry, graphs, counting}
 use Rattle.rules.specs.Test.{closed, systemOf, byNumber}
 use Rattle.orders.specs.Stored.{In, Combination, Made, Root, AllMade}
-use Rattle.verdict.specs.Demands.{kidsOf, told}
+use Rattle.verdict.specs.Demands.{told}
 use Rattle.verdict.proofs.Bridge.{circle-so, graph-so}
 
 module _ (g : Grammar) where
@@ -41,13 +41,13 @@ module _ (w : ℕ) (g : Grammar) (formed : WellFormed g) (few : AtMost w g) wher
   -- what is made of entries: the graph that its production makes of theirs, a number of w * w bits
   module _ (es : List Entry) (n : ℕ) (e : Entry) (m : Made (systemOf w g) (In (byNumber g)) es n e) where
     abbrev kids : List ℕ
-    kids = kidsOf g (e .production) (e .kids)
+    kids = counting (rights (production g (e .production))) (e .kids)
 
-    made-fits : record-of-trees.Combination (told g es) n (kidsOf g (e .production) (e .kids)) (rights (production g (e .production)))
+    made-fits : record-of-trees.KidsBelow (told g es) n (counting (rights (production g (e .production))) (e .kids)) (rights (production g (e .production)))
     unfolding systemOf
     made-fits = m .kids .fits
 
-    made-graph : Makes g (NumberHolds w) (e .production) (graphs es (kidsOf g (e .production) (e .kids))) (e .graph)
+    made-graph : Makes g (NumberHolds w) (e .production) (graphs es (counting (rights (production g (e .production))) (e .kids))) (e .graph)
     unfolding systemOf
     made-graph =
         subst (Makes g (NumberHolds w) (e .production) (graphs es kids)) (sym (m .graph))
@@ -97,7 +97,7 @@ module _ (w : ℕ) (g : Grammar) (formed : WellFormed g) (few : AtMost w g) wher
         → OfTree g (NumberHolds w) (InTable g) (e .symbol, e .graph)
     next-tree e m =
         let p = e .production in
-        let c = kidsOf g p (e .kids) in (
+        let c = counting (rights (production g p)) (e .kids) in (
           shown (told g es) p c,
           subst (λ (s : ℕ). Shows g (NumberHolds w) (InTable g) s (e .graph) (shown (told g es) p c)) (made-left es (length es) e m)
               (shown-graph g (NumberHolds w) (InTable g) (told g es) (length es) all-derived p c (in-table g p (m .kids .part))
@@ -106,24 +106,24 @@ module _ (w : ℕ) (g : Grammar) (formed : WellFormed g) (few : AtMost w g) wher
 
     -- the tree that a circular root shows
     module _ (p : ℕ) (slots : List ℕ) (root : Root (systemOf w g) (In (byNumber g)) es p slots) where
-      root-fits : record-of-trees.Combination (told g es) (length es) (kidsOf g p slots) (rights (production g p))
+      root-fits : record-of-trees.KidsBelow (told g es) (length es) (counting (rights (production g p)) slots) (rights (production g p))
       unfolding systemOf
       root-fits = root .kids .fits
 
-      pub root-earlier : (j : ℕ) → List·Memᴰ j (kidsOf g p slots) → j < length es
-      root-earlier = fits-below (told g es) (length es) (kidsOf g p slots) (rights (production g p)) root-fits
+      pub root-earlier : (j : ℕ) → List·Memᴰ j (counting (rights (production g p)) slots) → j < length es
+      root-earlier = fits-below (told g es) (length es) (counting (rights (production g p)) slots) (rights (production g p)) root-fits
 
-      pub root-complete : Complete g (InTable g) (shown (told g es) p (kidsOf g p slots))
+      pub root-complete : Complete g (InTable g) (shown (told g es) p (counting (rights (production g p)) slots))
       root-complete =
-          shown-complete g (NumberHolds w) (InTable g) (told g es) (length es) all-derived p (kidsOf g p slots)
+          shown-complete g (NumberHolds w) (InTable g) (told g es) (length es) all-derived p (counting (rights (production g p)) slots)
           (in-table g p (root .kids .part)) root-fits
 
-      pub root-circle : Circle (TreeEdge g (shown (told g es) p (kidsOf g p slots)))
+      pub root-circle : Circle (TreeEdge g (shown (told g es) p (counting (rights (production g p)) slots)))
       unfolding systemOf
       root-circle =
-          shown-circle g (NumberHolds w) (InTable g) (told g es) (length es) all-derived p (kidsOf g p slots)
+          shown-circle g (NumberHolds w) (InTable g) (told g es) (length es) all-derived p (counting (rights (production g p)) slots)
           (in-table g p (root .kids .part)) root-fits
-          (circle-so w g formed few p (graphs es (kidsOf g p slots)) (counted es (length es) p (kidsOf g p slots) (root .kids .fits)) .0
+          (circle-so w g formed few p (graphs es (counting (rights (production g p)) slots)) (counted es (length es) p (counting (rights (production g p)) slots) (root .kids .fits)) .0
           (root .round))
 
   -- a store to which nothing is left to add

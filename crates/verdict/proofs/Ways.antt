@@ -39,7 +39,7 @@ use Rattle.texts.specs.Lines.{kidsIn}
 use Rattle.texts.specs.Telling.{OthersZero, RootZero, UnprintedZero}
 use Rattle.texts.proofs.Telling.{printed-tells}
 use Rattle.verdict.specs.Demands.{back, answer}
-use Rattle.verdict.specs.Ways.{lent, left, ProgramAlways, readRow, RowProgram, RowAlways, answerFrom, unflat, NumbersTell, exportLent, exportLeft, numbersLeft, ExportAlways, TextTells, TouchedFalls, TouchedRowFalls}
+use Rattle.verdict.specs.Ways.{slicesGiven, slicesLeft, ProgramAlways, readRow, RowProgram, RowAlways, answerFrom, unflat, NumbersTell, exportGiven, exportLeft, numbersLeft, ExportAlways, TextTells, TouchedFalls, TouchedRowFalls}
 use Rattle.verdict.proofs.Obeys.{obeys}
 use Rattle.verdict.proofs.Demands.{refused, either, sound}
 use Rattle.verdict.proofs.Program.{behind, demanded, carried}
@@ -47,7 +47,7 @@ use Rattle.verdict.proofs.Program.{behind, demanded, carried}
 -- ---- over lent slices
 
 pub program : ProgramAlways
-program κs a r s promised = carried (now (a .0)) (a .1 .0) (lent κs a) r (left κs s) promised
+program κs a r s promised = carried (now (a .0)) (a .1 .0) (slicesGiven κs a) r (slicesLeft κs s) promised
 
 -- ---- over a lent row of records
 
@@ -192,9 +192,9 @@ program-of-export κs a r s promised =
     let read : unflat (numbersLeft κs s) ≡ promised .report =
     ap unflat (promised .numbers-are)
     ∙ ap (λ (x : Report). unflat (flat x)) (promised .tested .report)
-    ∙ numbers-tell (now (a .0)) (a .1 .0) (slices.roomOf (exportLent κs a))
+    ∙ numbers-tell (now (a .0)) (a .1 .0) (slices.roomOf (exportGiven κs a))
     ∙ sym (promised .tested .report) in
-    rw read (carried (now (a .0)) (a .1 .0) (exportLent κs a) (promised .report) (exportLeft κs s) (promised .tested))
+    rw read (carried (now (a .0)) (a .1 .0) (exportGiven κs a) (promised .report) (exportLeft κs s) (promised .tested))
 
 -- ---- the printed text
 

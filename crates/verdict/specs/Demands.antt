@@ -6,7 +6,7 @@ use mathlib.Core.List.{List, List·Memᴰ}
 use mathlib.Core.Logic.{_↔_}
 use mathlib.Core.Path.{_≡_}
 use Prim.Native.Nat.{ℕ, _+_, _*_, _^_, _≤_, _<_}
-use lib.ListN.{length, take}
+use lib.ListN.{length}
 use Rattle.numbers.specs.Lists.{Distinct}
 use Rattle.numbers.specs.Number.{bit}
 use Rattle.numbers.specs.Paths.{Plus}
@@ -21,7 +21,7 @@ use Rattle.grammar.specs.declared.Broken.{Broken}
 use Rattle.rules.specs.declared.Answer.{Answer}
 use Rattle.rules.specs.declared.Answer.the-variants.{Noncircular, Circular, Refused, OutOfSteps, OutOfRoom}
 use Rattle.rules.specs.declared.Entry.{Entry}
-use Rattle.rules.specs.Passes.{Outcome, outcome, entry, noRoot, empty}
+use Rattle.rules.specs.Passes.{Outcome, outcome, entry, noRoot, empty, counting}
 use Rattle.rules.specs.Test.{test}
 
 -- ---- words
@@ -76,17 +76,13 @@ pub record TreePair (bs : List ℕ) (q : ℕ × ℕ) : Type 0 where
   pub symbol : rootSymbol (grammarOf bs) tree ≡ q .0
   pub graph : GraphOf bs tree (q .1)
 
--- of seven slots, those that count: one for each right symbol
-abbrev pub kidsOf : Grammar → ℕ → List ℕ → List ℕ
-kidsOf g p slots = take (length (rights (production g p))) slots
-
 abbrev pub told : Grammar → List Entry → ℕ → record-of-trees.Entry ℕ
 told g es k =
     record {
       symbol = entry es k .symbol;
       graph = entry es k .graph;
       production = entry es k .production;
-      kids = kidsOf g (entry es k .production) (entry es k .kids);
+      kids = counting (rights (production g (entry es k .production))) (entry es k .kids);
     }
 
 abbrev pub entryOf : List ℕ → Outcome → ℕ → record-of-trees.Entry ℕ
@@ -98,7 +94,7 @@ entryTree bs o = shownEntry (entryOf bs o)
 
 -- the shown tree of a circular answer: the root's production, and below it the trees of its entry numbers
 abbrev pub shownTree : List ℕ → Outcome → ℕ → Tree
-shownTree bs o p = shown (entryOf bs o) p (kidsOf (grammarOf bs) p (o .report .root))
+shownTree bs o p = shown (entryOf bs o) p (counting (rights (production (grammarOf bs) p)) (o .report .root))
 
 -- ---- demand 1: a bad table is refused by number, and no other; then nothing is counted or stored
 pub record RefusedExactly (bs : List ℕ) (b : Broken) (o : Outcome) : Type 0 where
@@ -129,7 +125,7 @@ EntriesShownAlways v =
 pub record CircularShown (bs : List ℕ) (p : ℕ) (o : Outcome) : Type 0 where
   pub complete : TreeOf bs (shownTree bs o p)
   pub circle : HasCircle bs (shownTree bs o p)
-  pub earlier : (j : ℕ) → List·Memᴰ j (kidsOf (grammarOf bs) p (o .report .root)) → j < length (o .entries)
+  pub earlier : (j : ℕ) → List·Memᴰ j (counting (rights (production (grammarOf bs) p)) (o .report .root)) → j < length (o .entries)
 
 abbrev pub CircularShownAlways : Version → Type 0
 CircularShownAlways v =

@@ -50,16 +50,16 @@ module _ (κs : Lfts 5) where
   SlicesOut = AtExit (endedOf 5 slices-kinds.ps slices-kinds.r) κs
 
   -- the slices, before and after
-  abbrev pub lent : SlicesIn → Slices
-  lent a = slices (now (a .1 .1 .0)) (now (a .1 .1 .1 .0)) (now (a .1 .1 .1 .1 .0)) (now (a .1 .1 .1 .1 .1 .0))
+  abbrev pub slicesGiven : SlicesIn → Slices
+  slicesGiven a = slices (now (a .1 .1 .0)) (now (a .1 .1 .1 .0)) (now (a .1 .1 .1 .1 .0)) (now (a .1 .1 .1 .1 .1 .0))
 
-  abbrev pub left : SlicesOut → Slices
-  left s = slices (now (s .1 .1 .0)) (now (s .1 .1 .1 .0)) (now (s .1 .1 .1 .1 .0)) (now (s .1 .1 .1 .1 .1 .0))
+  abbrev pub slicesLeft : SlicesOut → Slices
+  slicesLeft s = slices (now (s .1 .1 .0)) (now (s .1 .1 .1 .0)) (now (s .1 .1 .1 .1 .0)) (now (s .1 .1 .1 .1 .1 .0))
 
 abbrev pub ProgramAlways : Type 0
 ProgramAlways =
     (κs : Lfts 5) (a : SlicesIn κs) (r : Report) (s : SlicesOut κs) → slices-reads.Post κs a r s
-    → Program (now (a .0)) (a .1 .0) (lent κs a) r (left κs s)
+    → Program (now (a .0)) (a .1 .0) (slicesGiven κs a) r (slicesLeft κs s)
 
 -- ---- over a lent row of records: `records::test`, with its parameters table, limit, entries
 
@@ -119,8 +119,8 @@ module _ (κs : Lfts 6) where
   abbrev pub ExportOut : Type 0
   ExportOut = AtExit (endedOf 6 export-kinds.ps export-kinds.r) κs
 
-  abbrev pub exportLent : ExportIn → Slices
-  exportLent a = slices (now (a .1 .1 .0)) (now (a .1 .1 .1 .0)) (now (a .1 .1 .1 .1 .0)) (now (a .1 .1 .1 .1 .1 .0))
+  abbrev pub exportGiven : ExportIn → Slices
+  exportGiven a = slices (now (a .1 .1 .0)) (now (a .1 .1 .1 .0)) (now (a .1 .1 .1 .1 .0)) (now (a .1 .1 .1 .1 .1 .0))
 
   abbrev pub exportLeft : ExportOut → Slices
   exportLeft s = slices (now (s .1 .1 .0)) (now (s .1 .1 .1 .0)) (now (s .1 .1 .1 .1 .0)) (now (s .1 .1 .1 .1 .1 .0))
@@ -132,18 +132,18 @@ module _ (κs : Lfts 6) where
 abbrev pub ExportAlways : Type 0
 ExportAlways =
     (κs : Lfts 6) (a : ExportIn κs) (r : resT export-kinds.r κs .Denot) (s : ExportOut κs) → export-reads.Post κs a r s
-    → Program (now (a .0)) (a .1 .0) (exportLent κs a) (unflat (numbersLeft κs s)) (exportLeft κs s)
+    → Program (now (a .0)) (a .1 .0) (exportGiven κs a) (unflat (numbersLeft κs s)) (exportLeft κs s)
 
 -- ---- the printed text
 
 -- what `circ` would print of a table, for a limit and a room
-abbrev pub text : List ℕ → ℕ → ℕ → List ℕ
-text bs limit room = printed (kidsIn bs) (back bs limit room)
+abbrev pub tableText : List ℕ → ℕ → ℕ → List ℕ
+tableText bs limit room = printed (kidsIn bs) (back bs limit room)
 
 -- it tells the outcome: whatever the tables, limits and rooms, no two outcomes print the same
 abbrev pub TextTells : Type 0
 TextTells =
-    (bs bs′ : List ℕ) (limit limit′ room room′ : ℕ) → text bs limit room ≡ text bs′ limit′ room′
+    (bs bs′ : List ℕ) (limit limit′ room room′ : ℕ) → tableText bs limit room ≡ tableText bs′ limit′ room′
     → back bs limit room ≡ back bs′ limit′ room′
 
 -- ---- a wrong version: one that changes what is lent, though the table is bad
