@@ -1,8 +1,9 @@
 //! Damages a taken table in many ways.
 
+use crate::faults::{put, with_faults, Fault, Records, OF_EDGES, OF_PRODUCTIONS, OF_SYMBOLS};
 use crate::random::Random;
 use crate::table::{
-    number, Header, EDGE_BYTES, HEADER_BYTES, MOST_RIGHT, PRODUCTION_BYTES, SYMBOL_BYTES,
+    number, refusal, Header, EDGE_BYTES, HEADER_BYTES, MOST_RIGHT, PRODUCTION_BYTES, SYMBOL_BYTES,
 };
 
 #[derive(Clone, Copy, Debug, PartialEq, Eq)]
@@ -22,9 +23,17 @@ pub enum Damage {
     EdgesSwapped,
     BodyRandom,
     BytesRandom,
+    /// This fault in one record and nothing else.
+    Single(Fault),
+    /// Two to four faults in one edge.
+    FaultsInOneEdge,
+    /// Faults in two to four edges.
+    FaultsInEdges,
+    /// Two to six faults in records of any kind.
+    FaultsInRecords,
 }
 
-pub const ALL: [Damage; 15] = [
+pub const ALL: [Damage; 31] = [
     Damage::BitFlipped,
     Damage::ByteChanged,
     Damage::Cut,
@@ -40,10 +49,26 @@ pub const ALL: [Damage; 15] = [
     Damage::EdgesSwapped,
     Damage::BodyRandom,
     Damage::BytesRandom,
+    Damage::Single(Fault::AttributeCount),
+    Damage::Single(Fault::MaskBit),
+    Damage::Single(Fault::LeftSymbol),
+    Damage::Single(Fault::RightCount),
+    Damage::Single(Fault::RightSymbol),
+    Damage::Single(Fault::SpareSlot),
+    Damage::Single(Fault::Order),
+    Damage::Single(Fault::Target),
+    Damage::Single(Fault::TargetAttribute),
+    Damage::Single(Fault::SourceAttribute),
+    Damage::Single(Fault::TargetOccurrence),
+    Damage::Single(Fault::SourceOccurrence),
+    Damage::Single(Fault::EdgeProduction),
+    Damage::FaultsInOneEdge,
+    Damage::FaultsInEdges,
+    Damage::FaultsInRecords,
 ];
 
 /// The table with this damage. Where it has no record of the kind to damage,
-/// a byte is changed instead.
+/// or is not taken and the damage is one of faults, a byte is changed instead.
 pub fn damage(random: &mut Random, table: &[u8], kind: Damage) -> Vec<u8> {
     let header = Header::of(table);
     let table = table.to_vec();
@@ -65,8 +90,100 @@ pub fn damage(random: &mut Random, table: &[u8], kind: Damage) -> Vec<u8> {
         Damage::EdgesSwapped if header.edges > 1 => swap_edges(random, table, &header),
         Damage::BodyRandom => randomize_body(random, table, &header),
         Damage::BytesRandom => random_bytes(random),
+        Damage::Single(fault) => {
+            let place = some_place(random, fault.records().count(&header));
+            put_faults(random, table, &[(fault, place)])
+        }
+        Damage::FaultsInOneEdge => {
+            let faults = faults_in_one_edge(random, &header);
+            put_faults(random, table, &faults)
+        }
+        Damage::FaultsInEdges => {
+            let faults = faults_in_edges(random, &header);
+            put_faults(random, table, &faults)
+        }
+        Damage::FaultsInRecords => {
+            let faults = faults_in_records(random, &header);
+            put_faults(random, table, &faults)
+        }
         _ => change_byte(random, table),
     }
+}
+
+/// A fault and the place of its record.
+type Placed = (Fault, usize);
+
+/// The first, a middle, the last or any place, 0 if there is none.
+pub fn some_place(random: &mut Random, count: usize) -> usize {
+    if count == 0 {
+        return 0;
+    }
+    let any = random.below(count);
+    *random.pick(&[0, count / 2, count - 1, any])
+}
+
+fn put_faults(random: &mut Random, table: Vec<u8>, faults: &[Placed]) -> Vec<u8> {
+    if refusal(&table).is_some() {
+        return change_byte(random, table);
+    }
+    let faulty = with_faults(random, &table, faults);
+    if faulty.faults.is_empty() {
+        return change_byte(random, table);
+    }
+    faulty.table
+}
+
+/// Two to four different ones.
+pub fn faults_in_one_edge(random: &mut Random, header: &Header) -> Vec<Placed> {
+    let place = some_place(random, header.edges);
+    let mut faults = OF_EDGES;
+    random.shuffle(&mut faults);
+    let count = random.between(2, 4);
+    faults[..count]
+        .iter()
+        .map(|&fault| (fault, place))
+        .collect()
+}
+
+/// In two to four edges, some of them next to each other; now and then two
+/// in one.
+pub fn faults_in_edges(random: &mut Random, header: &Header) -> Vec<Placed> {
+    let mut place = some_place(random, header.edges);
+    let mut faults = Vec::new();
+    for _ in 0..random.between(2, 4) {
+        faults.push((*random.pick(&OF_EDGES), place));
+        if random.once_in(4) {
+            faults.push((*random.pick(&OF_EDGES), place));
+        }
+        place = if random.once_in(3) {
+            place + 1
+        } else {
+            some_place(random, header.edges)
+        };
+    }
+    faults
+}
+
+/// Two to six. Those of symbols hide all others, and those of productions
+/// the edges', so they often stand alone.
+pub fn faults_in_records(random: &mut Random, header: &Header) -> Vec<Placed> {
+    let kinds: &[Records] = match random.below(4) {
+        0 => &[Records::Symbols],
+        1 => &[Records::Productions],
+        2 => &[Records::Productions, Records::Edges],
+        _ => &[Records::Symbols, Records::Productions, Records::Edges],
+    };
+    let mut faults = Vec::new();
+    for _ in 0..random.between(2, 6) {
+        let records = *random.pick(kinds);
+        let fault = match records {
+            Records::Symbols => *random.pick(&OF_SYMBOLS),
+            Records::Productions => *random.pick(&OF_PRODUCTIONS),
+            Records::Edges => *random.pick(&OF_EDGES),
+        };
+        faults.push((fault, some_place(random, records.count(header))));
+    }
+    faults
 }
 
 fn flip_bit(random: &mut Random, mut table: Vec<u8>) -> Vec<u8> {
@@ -138,7 +255,7 @@ fn break_count(random: &mut Random, mut table: Vec<u8>, header: &Header) -> Vec<
 }
 
 fn break_symbol(random: &mut Random, mut table: Vec<u8>, header: &Header) -> Vec<u8> {
-    let at = header.symbols_at() + SYMBOL_BYTES * random.below(header.symbols);
+    let at = header.symbols_at() + SYMBOL_BYTES * some_place(random, header.symbols);
     let count = table[at];
     if count < 8 && random.once_in(2) {
         table[at + 1] |= 1 << random.between(count as usize, 7);
@@ -149,7 +266,7 @@ fn break_symbol(random: &mut Random, mut table: Vec<u8>, header: &Header) -> Vec
 }
 
 fn break_production(random: &mut Random, mut table: Vec<u8>, header: &Header) -> Vec<u8> {
-    let at = header.productions_at() + PRODUCTION_BYTES * random.below(header.productions);
+    let at = header.productions_at() + PRODUCTION_BYTES * some_place(random, header.productions);
     let beyond = *random.pick(&[header.symbols, header.symbols + 1, 0xFFFF]);
     match random.below(3) {
         0 => put(&mut table, at, 2, beyond),
@@ -176,7 +293,7 @@ fn set_spare_slot(random: &mut Random, mut table: Vec<u8>, header: &Header) -> V
 }
 
 fn break_edge(random: &mut Random, mut table: Vec<u8>, header: &Header) -> Vec<u8> {
-    let at = edge_at(header, random.below(header.edges));
+    let at = edge_at(header, some_place(random, header.edges));
     let beyond = *random.pick(&[1, 2, 3, 7, 8, 255]);
     match random.below(6) {
         0 => put(&mut table, at, 2, header.productions),
@@ -192,7 +309,7 @@ fn break_edge(random: &mut Random, mut table: Vec<u8>, header: &Header) -> Vec<u
 
 /// The counts and the total are put right, so that only the order is broken.
 fn double_edge(random: &mut Random, mut table: Vec<u8>, header: &Header) -> Vec<u8> {
-    let at = edge_at(header, random.below(header.edges));
+    let at = edge_at(header, some_place(random, header.edges));
     let edge = table[at..at + EDGE_BYTES].to_vec();
     table.splice(at..at, edge);
     put(&mut table, 4, 2, header.edges + 1);
@@ -237,8 +354,4 @@ fn random_bytes(random: &mut Random) -> Vec<u8> {
 
 fn edge_at(header: &Header, place: usize) -> usize {
     header.edges_at() + EDGE_BYTES * place
-}
-
-fn put(table: &mut [u8], at: usize, width: usize, value: usize) {
-    table[at..at + width].copy_from_slice(&value.to_le_bytes()[..width]);
 }

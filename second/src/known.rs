@@ -1,6 +1,7 @@
 //! Grammars with known counts, and families of any size up to the limits.
 
 use crate::table::{Edge, Grammar, Production, Symbol};
+use std::ops::Range;
 
 /// An edge as source occurrence and attribute, target occurrence and
 /// attribute.
@@ -314,6 +315,13 @@ pub fn full() -> Grammar {
         productions,
         start: last,
     }
+}
+
+/// These productions of it, 16 edges each, with all its symbols.
+pub fn part_of_full(range: Range<usize>) -> Grammar {
+    let mut grammar = full();
+    grammar.productions = grammar.productions[range].to_vec();
+    grammar
 }
 
 /// The grammars that are written out as samples, with their names.

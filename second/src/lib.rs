@@ -4,6 +4,7 @@
 //! entries as a row of structs.
 
 pub mod damage;
+pub mod faults;
 pub mod graph;
 pub mod known;
 pub mod make;
@@ -18,4 +19,4 @@ pub mod vectors;
 pub use graph::{compound_closure, Closure};
 pub use passes::{run, run_grammar, Answer, Entry, Outcome};
 pub use report::report;
-pub use table::{read, refusal, write, Edge, Grammar, Production, Symbol};
+pub use table::{read, refusal, write, Edge, Grammar, Production, Refusal, Symbol};

@@ -1,7 +1,7 @@
 //! The passes, with any closure limit and any room.
 
 use crate::graph::compound_closure;
-use crate::table::{self, Grammar, MOST_RIGHT};
+use crate::table::{self, Grammar, Refusal, MOST_RIGHT};
 
 /// Records beyond this many are never used.
 pub const MOST_ENTRIES: usize = 4096;
@@ -10,7 +10,7 @@ pub const MOST_ENTRIES: usize = 4096;
 pub enum Answer {
     Noncircular,
     Circular,
-    Refused(u8),
+    Refused(Refusal),
     OutOfSteps,
     OutOfRoom,
 }
@@ -42,7 +42,7 @@ impl Answer {
     pub fn number(&self) -> u8 {
         match self {
             Answer::Noncircular | Answer::Circular => 0,
-            Answer::Refused(number) => *number,
+            Answer::Refused(refusal) => refusal.number(),
             Answer::OutOfSteps => 8,
             Answer::OutOfRoom => 9,
         }
@@ -71,8 +71,8 @@ impl Outcome {
 pub fn run(table: &[u8], limit: u32, room: usize) -> Outcome {
     match table::read(table) {
         Ok(grammar) => run_grammar(&grammar, limit, room),
-        Err(number) => Outcome {
-            answer: Answer::Refused(number),
+        Err(refusal) => Outcome {
+            answer: Answer::Refused(refusal),
             ..Outcome::new()
         },
     }

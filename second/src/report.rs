@@ -1,15 +1,20 @@
 //! What `circ` prints.
 
 use crate::passes::{run_grammar, Answer, Outcome};
-use crate::table::{self, Grammar};
+use crate::table::{self, Grammar, Refusal};
 use std::fmt::Write;
 
 /// The whole report on a table.
 pub fn report(table: &[u8], limit: u32, room: usize) -> String {
     match table::read(table) {
         Ok(grammar) => print(&grammar, &run_grammar(&grammar, limit, room)),
-        Err(number) => format!("refused {number}\n"),
+        Err(refusal) => refused(refusal),
     }
+}
+
+/// All that is printed of a bad table.
+pub fn refused(refusal: Refusal) -> String {
+    format!("{refusal}\n")
 }
 
 /// The report on a run of this grammar.
@@ -23,9 +28,15 @@ pub fn print_short(grammar: &Grammar, outcome: &Outcome) -> String {
 }
 
 fn first_line(outcome: &Outcome) -> String {
+    let word = match outcome.answer {
+        Answer::Noncircular => "noncircular",
+        Answer::Circular => "circular",
+        Answer::Refused(refusal) => return refused(refusal),
+        Answer::OutOfSteps => "out-of-steps",
+        Answer::OutOfRoom => "out-of-room",
+    };
     format!(
-        "{} closures {} entries {} passes {}\n",
-        word(outcome.answer),
+        "{word} closures {} entries {} passes {}\n",
         outcome.closures,
         outcome.entries(),
         outcome.passes,
@@ -51,16 +62,6 @@ fn root_line(grammar: &Grammar, outcome: &Outcome) -> String {
     let production = outcome.root_production;
     let kids = kids(grammar, production, &outcome.root_kids);
     format!("root production {production} kids{kids}\n")
-}
-
-fn word(answer: Answer) -> &'static str {
-    match answer {
-        Answer::Noncircular => "noncircular",
-        Answer::Circular => "circular",
-        Answer::Refused(_) => "refused",
-        Answer::OutOfSteps => "out-of-steps",
-        Answer::OutOfRoom => "out-of-room",
-    }
 }
 
 /// The entry numbers that count, each after a blank.

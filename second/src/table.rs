@@ -1,4 +1,6 @@
-//! Reading a table into a grammar, or refusing it by number; and writing it.
+//! Reading a table into a grammar, or refusing it; and writing it.
+
+use std::fmt;
 
 pub const MOST_SYMBOLS: usize = 256;
 pub const MOST_PRODUCTIONS: usize = 512;
@@ -48,6 +50,71 @@ pub struct Header {
     pub productions: usize,
     pub edges: usize,
     pub start: usize,
+}
+
+/// Why a table is refused. Where a record is bad it is the first bad one,
+/// counted from 0 in its own table: symbols, productions or edges. The
+/// refusals of the header have no record.
+#[derive(Clone, Copy, Debug, PartialEq, Eq)]
+pub enum Refusal {
+    HeaderShort,
+    Counts,
+    Offsets,
+    Symbol(usize),
+    Production(usize),
+    /// Not above the edge before.
+    EdgeOrder(usize),
+    /// The edge's production is not there.
+    EdgeProduction(usize),
+    /// The source's or the target's occurrence is out of range.
+    EdgeOccurrence(usize),
+    /// The source's or the target's attribute is out of range.
+    EdgeAttribute(usize),
+    /// The target is there and is not allowed as one.
+    EdgeTarget(usize),
+}
+
+impl Refusal {
+    /// The page's number. There is no 6.
+    pub fn number(&self) -> u8 {
+        match self {
+            Refusal::HeaderShort => 1,
+            Refusal::Counts => 2,
+            Refusal::Offsets => 3,
+            Refusal::Symbol(_) => 4,
+            Refusal::Production(_) => 5,
+            Refusal::EdgeOrder(_) => 7,
+            Refusal::EdgeProduction(_) => 10,
+            Refusal::EdgeOccurrence(_) => 11,
+            Refusal::EdgeAttribute(_) => 12,
+            Refusal::EdgeTarget(_) => 13,
+        }
+    }
+
+    /// The bad record, if the refusal has one.
+    pub fn record(&self) -> Option<usize> {
+        match *self {
+            Refusal::HeaderShort | Refusal::Counts | Refusal::Offsets => None,
+            Refusal::Symbol(record)
+            | Refusal::Production(record)
+            | Refusal::EdgeOrder(record)
+            | Refusal::EdgeProduction(record)
+            | Refusal::EdgeOccurrence(record)
+            | Refusal::EdgeAttribute(record)
+            | Refusal::EdgeTarget(record) => Some(record),
+        }
+    }
+}
+
+/// As `circ` prints it: the number, and the record's where there is one.
+impl fmt::Display for Refusal {
+    fn fmt(&self, out: &mut fmt::Formatter) -> fmt::Result {
+        write!(out, "refused {}", self.number())?;
+        match self.record() {
+            Some(record) => write!(out, " {record}"),
+            None => Ok(()),
+        }
+    }
 }
 
 impl Production {
@@ -105,13 +172,13 @@ impl Header {
     }
 }
 
-/// The number of the refusal, 0 if the table is taken.
-pub fn refusal(table: &[u8]) -> u8 {
-    read(table).err().unwrap_or(0)
+/// The refusal, none if the table is taken.
+pub fn refusal(table: &[u8]) -> Option<Refusal> {
+    read(table).err()
 }
 
-/// The grammar of a table, or the number of its refusal.
-pub fn read(table: &[u8]) -> Result<Grammar, u8> {
+/// The grammar of a table, or its refusal.
+pub fn read(table: &[u8]) -> Result<Grammar, Refusal> {
     let header = read_header(table)?;
     let mut grammar = Grammar {
         symbols: read_symbols(table, &header)?,
@@ -166,29 +233,29 @@ pub fn write(grammar: &Grammar) -> Vec<u8> {
     table
 }
 
-fn read_header(table: &[u8]) -> Result<Header, u8> {
+fn read_header(table: &[u8]) -> Result<Header, Refusal> {
     if table.len() < HEADER_BYTES {
-        return Err(1);
+        return Err(Refusal::HeaderShort);
     }
     let header = Header::of(table);
     if !header.in_range() {
-        return Err(2);
+        return Err(Refusal::Counts);
     }
     let given = [8, 12, 16, 20].map(|at| number(table, at, 4));
     if given != header.offsets() || header.total() != table.len() {
-        return Err(3);
+        return Err(Refusal::Offsets);
     }
     Ok(header)
 }
 
-fn read_symbols(table: &[u8], header: &Header) -> Result<Vec<Symbol>, u8> {
+fn read_symbols(table: &[u8], header: &Header) -> Result<Vec<Symbol>, Refusal> {
     let mut symbols = Vec::new();
     for place in 0..header.symbols {
         let at = header.symbols_at() + SYMBOL_BYTES * place;
         let count = number(table, at, 1);
         let mask = number(table, at + 1, 1);
         if count > MOST_ATTRIBUTES || mask >= 1 << count {
-            return Err(4);
+            return Err(Refusal::Symbol(place));
         }
         let inherited = (0..count).map(|k| mask >> k & 1 == 1).collect();
         symbols.push(Symbol { inherited });
@@ -196,7 +263,7 @@ fn read_symbols(table: &[u8], header: &Header) -> Result<Vec<Symbol>, u8> {
     Ok(symbols)
 }
 
-fn read_productions(table: &[u8], header: &Header) -> Result<Vec<Production>, u8> {
+fn read_productions(table: &[u8], header: &Header) -> Result<Vec<Production>, Refusal> {
     let mut productions = Vec::new();
     for place in 0..header.productions {
         let at = header.productions_at() + PRODUCTION_BYTES * place;
@@ -204,13 +271,13 @@ fn read_productions(table: &[u8], header: &Header) -> Result<Vec<Production>, u8
         let n = number(table, at + 2, 2);
         let slots = [0, 1, 2, 3, 4, 5, 6].map(|slot| number(table, at + 4 + 2 * slot, 2));
         if left >= header.symbols || n > MOST_RIGHT {
-            return Err(5);
+            return Err(Refusal::Production(place));
         }
         let (right, spare) = slots.split_at(n);
         let bad_right = right.iter().any(|&symbol| symbol >= header.symbols);
         let bad_spare = spare.iter().any(|&slot| slot != 0);
         if bad_right || bad_spare {
-            return Err(5);
+            return Err(Refusal::Production(place));
         }
         productions.push(Production {
             left,
@@ -221,8 +288,8 @@ fn read_productions(table: &[u8], header: &Header) -> Result<Vec<Production>, u8
     Ok(productions)
 }
 
-/// Puts each edge into its production.
-fn read_edges(table: &[u8], header: &Header, grammar: &mut Grammar) -> Result<(), u8> {
+/// Puts each edge into its production; the first bad edge decides.
+fn read_edges(table: &[u8], header: &Header, grammar: &mut Grammar) -> Result<(), Refusal> {
     let mut before = None;
     for place in 0..header.edges {
         let at = header.edges_at() + EDGE_BYTES * place;
@@ -233,11 +300,9 @@ fn read_edges(table: &[u8], header: &Header, grammar: &mut Grammar) -> Result<()
             target_occurrence: number(table, at + 4, 1),
             target_attribute: number(table, at + 5, 1),
         };
-        if !edge_allowed(grammar, production, &edge) {
-            return Err(6);
-        }
+        check_edge(grammar, place, production, &edge)?;
         if before >= Some((production, edge)) {
-            return Err(7);
+            return Err(Refusal::EdgeOrder(place));
         }
         before = Some((production, edge));
         grammar.productions[production].edges.push(edge);
@@ -245,14 +310,39 @@ fn read_edges(table: &[u8], header: &Header, grammar: &mut Grammar) -> Result<()
     Ok(())
 }
 
-fn edge_allowed(grammar: &Grammar, production: usize, edge: &Edge) -> bool {
+/// All of an edge but its order: the production, both occurrences, both
+/// attributes, then the target.
+fn check_edge(
+    grammar: &Grammar,
+    place: usize,
+    production: usize,
+    edge: &Edge,
+) -> Result<(), Refusal> {
     let Some(production) = grammar.productions.get(production) else {
-        return false;
+        return Err(Refusal::EdgeProduction(place));
     };
-    let kind = |occurrence, attribute| inherited(grammar, production, occurrence, attribute);
-    let source = kind(edge.source_occurrence, edge.source_attribute);
-    let target = kind(edge.target_occurrence, edge.target_attribute);
-    source.is_some() && target == Some(edge.target_occurrence > 0)
+    let source_symbol = production.symbol_at(edge.source_occurrence);
+    let target_symbol = production.symbol_at(edge.target_occurrence);
+    let (Some(source_symbol), Some(target_symbol)) = (source_symbol, target_symbol) else {
+        return Err(Refusal::EdgeOccurrence(place));
+    };
+    let source_attributes = &grammar.symbols[source_symbol].inherited;
+    let target_attributes = &grammar.symbols[target_symbol].inherited;
+    if edge.source_attribute >= source_attributes.len()
+        || edge.target_attribute >= target_attributes.len()
+    {
+        return Err(Refusal::EdgeAttribute(place));
+    }
+    let inherited = target_attributes[edge.target_attribute];
+    let allowed = if edge.target_occurrence == 0 {
+        !inherited
+    } else {
+        inherited
+    };
+    if !allowed {
+        return Err(Refusal::EdgeTarget(place));
+    }
+    Ok(())
 }
 
 /// Whether the attribute at the occurrence is inherited, if there is one.

@@ -2,11 +2,12 @@
 //! borders of each run, and what must be printed.
 
 use crate::damage::{damage, Damage, ALL};
+use crate::faults::{with_faults, Fault, OF_EDGES, OF_PRODUCTIONS, OF_SYMBOLS};
 use crate::known;
 use crate::make;
 use crate::passes::{run, run_grammar, Answer, Outcome, MOST_ENTRIES};
 use crate::random::Random;
-use crate::report::{print, print_short};
+use crate::report::{print, print_short, refused};
 use crate::table::{self, Grammar, Header, EDGE_BYTES, SYMBOL_BYTES};
 use std::collections::BTreeSet;
 
@@ -50,11 +51,18 @@ const MADE: [(Maker, usize, u32, u32); 7] = [
 /// How many tables whose circle comes late, and from which closure on.
 const LATE_CIRCLES: (usize, u32) = (120, 10);
 
-/// How many tables for each kind of damage.
-const DAMAGED: usize = 142;
+/// How many tables for each kind of damage, and for each that is one of
+/// faults.
+const DAMAGED: usize = 95;
+const FAULTY: usize = 20;
 
-/// How many tables with an edge that is bad in two ways.
-const TWICE_BAD: usize = 40;
+/// How many tables for each fault in the first, a middle and the last record;
+/// for each two faults in one edge; for each two in two edges; and for each
+/// two in two symbols or two productions.
+const SINGLE_FAULTS: usize = 4;
+const IN_ONE_EDGE: usize = 4;
+const IN_TWO_EDGES: usize = 2;
+const IN_TWO_RECORDS: usize = 2;
 
 /// Damage to records; edges twice, since theirs is checked edge by edge.
 const RECORDS_BROKEN: [Damage; 8] = [
@@ -80,6 +88,7 @@ pub fn cases(seed: u64) -> Vec<Case> {
     cases.push(crowd_case(random));
     let mut rest = made_cases(random);
     rest.extend(damaged_cases(random));
+    rest.extend(faulty_cases(random));
     // Mixed, so that what is left over from one kind meets another.
     random.shuffle(&mut rest);
     cases.extend(rest);
@@ -110,7 +119,7 @@ pub fn output(cases: &[Case]) -> String {
         for run in &case.runs {
             text += &match &read {
                 Ok(grammar) => printed(grammar, run),
-                Err(number) => format!("refused {number}\n"),
+                Err(refusal) => refused(*refusal),
             };
         }
     }
@@ -181,6 +190,7 @@ fn border_cases(random: &mut Random) -> Vec<Case> {
     let mut tables = vec![full.clone()];
     tables.extend(one_longer(&full));
     tables.extend(last_record_bad(random, &full));
+    tables.extend(late_record_bad(random));
     for table in tables {
         cases.push(case(random, table));
     }
@@ -225,6 +235,32 @@ fn last_record_bad(random: &mut Random, full: &[u8]) -> [Vec<u8>; 4] {
     [symbol, production, edge, twice]
 }
 
+/// A bad production above number 255, and bad edges: above number 255 with
+/// each fault, and the last of some 3,000.
+fn late_record_bad(random: &mut Random) -> Vec<Vec<u8>> {
+    let mut tables = Vec::new();
+    let productions = make::border_of(random, 3);
+    let place = random.between(256, 510);
+    tables.extend(faulty(random, &productions, &[(Fault::RightCount, place)]));
+    let some = table::write(&known::part_of_full(240..264));
+    for fault in OF_EDGES {
+        let place = random.between(256, Header::of(&some).edges - 1);
+        tables.extend(faulty(random, &some, &[(fault, place)]));
+    }
+    let many = table::write(&known::part_of_full(100..288));
+    let last = Header::of(&many).edges - 1;
+    tables.extend(faulty(random, &many, &[(Fault::Target, last)]));
+    tables
+}
+
+/// The table with these faults, if it can have them all. What follows from
+/// them is what the reader says.
+fn faulty(random: &mut Random, table: &[u8], faults: &[(Fault, usize)]) -> Option<Vec<u8>> {
+    let faulty = with_faults(random, table, faults);
+    assert_eq!(table::refusal(&faulty.table), faulty.refusal);
+    (faulty.faults.len() == faults.len()).then_some(faulty.table)
+}
+
 /// More than 4,096 entries: a larger room is no more than one of 4,096.
 fn crowd_case(random: &mut Random) -> Case {
     let table = make::crowd(random.draw());
@@ -266,15 +302,95 @@ fn made_cases(random: &mut Random) -> Vec<Case> {
 fn damaged_cases(random: &mut Random) -> Vec<Case> {
     let mut cases = Vec::new();
     for kind in ALL {
-        for _ in 0..DAMAGED {
+        let count = match kind {
+            Damage::Single(_)
+            | Damage::FaultsInOneEdge
+            | Damage::FaultsInEdges
+            | Damage::FaultsInRecords => FAULTY,
+            _ => DAMAGED,
+        };
+        for _ in 0..count {
             let make = |seed| damaged(seed, kind);
             cases.push(draw(random, make, USUAL_MOST, |_, _| true));
         }
     }
-    for _ in 0..TWICE_BAD {
-        cases.push(draw(random, edge_twice_bad, USUAL_MOST, |_, _| true));
+    cases
+}
+
+/// Each fault in each place, and each two of them in one edge or in two
+/// records, so that the order of the checks decides.
+fn faulty_cases(random: &mut Random) -> Vec<Case> {
+    let mut lists = Vec::new();
+    for fault in [&OF_SYMBOLS[..], &OF_PRODUCTIONS[..], &OF_EDGES[..]].concat() {
+        for place in [Place::First, Place::Middle, Place::Last] {
+            lists.extend(vec![vec![(fault, place)]; SINGLE_FAULTS]);
+        }
+    }
+    for (turn, &fault) in OF_EDGES.iter().enumerate() {
+        for &other in &OF_EDGES[turn + 1..] {
+            let both = vec![(fault, Place::Middle), (other, Place::Middle)];
+            lists.extend(vec![both; IN_ONE_EDGE]);
+        }
+    }
+    for fault in OF_EDGES {
+        for other in OF_EDGES {
+            let both = vec![(fault, Place::Middle), (other, Place::Last)];
+            lists.extend(vec![both; IN_TWO_EDGES]);
+        }
+    }
+    for own in [&OF_SYMBOLS[..], &OF_PRODUCTIONS[..]] {
+        for &fault in own {
+            for &other in own {
+                let both = vec![(fault, Place::Middle), (other, Place::Last)];
+                lists.extend(vec![both; IN_TWO_RECORDS]);
+            }
+        }
+    }
+    let mut cases = Vec::new();
+    for list in lists {
+        cases.push(faulty_case(random, &list));
     }
     cases
+}
+
+/// A place among at least three records.
+#[derive(Clone, Copy)]
+enum Place {
+    First,
+    Middle,
+    Last,
+}
+
+impl Place {
+    /// The first edge cannot be out of order; the second is taken for it.
+    fn of(self, fault: Fault, count: usize) -> usize {
+        match self {
+            Place::First if fault == Fault::Order => 1,
+            Place::First => 0,
+            Place::Middle => count / 2,
+            Place::Last => count - 1,
+        }
+    }
+}
+
+/// The case of a made table that can have all these faults.
+fn faulty_case(random: &mut Random, list: &[(Fault, Place)]) -> Case {
+    loop {
+        let make: Maker = *random.pick(&[make::lively, make::lively, make::small, make::maps]);
+        let table = make(random.draw());
+        let header = Header::of(&table);
+        let count = |fault: Fault| fault.records().count(&header);
+        if list.iter().any(|&(fault, _)| count(fault) < 3) {
+            continue;
+        }
+        let placed = list
+            .iter()
+            .map(|&(fault, place)| (fault, place.of(fault, count(fault))));
+        let placed: Vec<_> = placed.collect();
+        if let Some(table) = faulty(random, &table, &placed) {
+            return case(random, table);
+        }
+    }
 }
 
 /// A table with this damage, sometimes with more.
@@ -285,24 +401,19 @@ fn damaged(seed: u64, kind: Damage) -> Vec<u8> {
     table = damage(random, &table, kind);
     // With a right header its records can be damaged again; then it matters
     // which check comes first.
-    while !(1..=3).contains(&table::refusal(&table)) && random.once_in(2) {
+    while header_is_right(&table) && random.once_in(2) {
         let kind = *random.pick(&RECORDS_BROKEN);
         table = damage(random, &table, kind);
     }
     table
 }
 
-/// A table with an edge that is out of range and mostly also out of order.
-fn edge_twice_bad(seed: u64) -> Vec<u8> {
-    let mut table = make::lively(seed);
-    let header = Header::of(&table);
-    let edge_at = |place| header.edges_at() + EDGE_BYTES * place;
-    if header.edges > 2 {
-        let place = Random::new(seed).between(2, header.edges - 1);
-        table.copy_within(edge_at(0)..edge_at(1), edge_at(place));
-        table[edge_at(place) + 5] = 8;
+/// Taken, or refused for one of its records.
+fn header_is_right(table: &[u8]) -> bool {
+    match table::refusal(table) {
+        Some(refusal) => refusal.record().is_some(),
+        None => true,
     }
-    table
 }
 
 /// The case of a made table that needs no more closures than these and

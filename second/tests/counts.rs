@@ -1,7 +1,7 @@
 //! Known answers and counts.
 
 use second::Answer::{Circular, Noncircular, OutOfRoom, OutOfSteps, Refused};
-use second::{known, report, run, text, write, Answer, Entry, Grammar, Outcome};
+use second::{known, report, run, text, write, Answer, Entry, Grammar, Outcome, Refusal};
 use std::time::{Duration, Instant};
 
 fn numbers(outcome: &Outcome) -> (Answer, u32, usize, u32) {
@@ -70,6 +70,9 @@ fn other_reports() {
     assert!(report(&a, 9, 3).starts_with("out-of-steps closures 9 entries 3 passes 3\nentry 0 "));
     assert!(report(&a, 10, 2).starts_with("out-of-room closures 3 entries 2 passes 2\nentry 0 "));
     assert_eq!(report(&a[..23], 10, 3), "refused 1\n");
+    let mut bad = a.clone();
+    bad[24] = 9;
+    assert_eq!(report(&bad, 10, 3), "refused 4 0\n");
 }
 
 #[test]
@@ -115,8 +118,18 @@ production Y -> X X
 #[test]
 fn refused_tables_have_no_numbers() {
     let outcome = run(&[], 10, 10);
-    assert_eq!(numbers(&outcome), (Refused(1), 0, 0, 0));
+    assert_eq!(numbers(&outcome), (Refused(Refusal::HeaderShort), 0, 0, 0));
     assert!(outcome.stored.is_empty());
+    let mut a = write(&known::a());
+    // The last edge is production 2, 0.1 → 0.3.
+    *a.last_mut().unwrap() = 0;
+    let outcome = run(&a, 10, 10);
+    assert_eq!(
+        numbers(&outcome),
+        (Refused(Refusal::EdgeTarget(3)), 0, 0, 0)
+    );
+    assert!(outcome.stored.is_empty());
+    assert_eq!(outcome.answer.number(), 13);
 }
 
 #[test]

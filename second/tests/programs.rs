@@ -24,6 +24,13 @@ fn circ2() {
     assert_eq!(circ2(&b), second::report(&b, 1_000_000, 1_024).into_bytes());
     assert_eq!(circ2(&b[..30]), b"refused 3\n");
     assert_eq!(circ2(&[]), b"refused 1\n");
+    let mut bad = b.clone();
+    bad[24] = 9;
+    assert_eq!(circ2(&bad), b"refused 4 0\n");
+    let mut bad = b.clone();
+    // The last edge, number 4, is production 2, 0.1 → 0.3.
+    bad[110] = 1;
+    assert_eq!(circ2(&bad), b"refused 11 4\n");
 }
 
 #[test]
@@ -42,6 +49,9 @@ fn table() {
         assert!(output.stdout.is_empty());
     };
     failed(&["show"], &table[..23], "refused 1\n");
+    let mut bad = table.clone();
+    bad[24 + 2 * 2] = 9;
+    failed(&["show"], &bad, "refused 4 2\n");
     failed(
         &["make"],
         b"symbol X\nstart Y\n",

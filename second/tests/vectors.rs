@@ -72,7 +72,7 @@ impl First {
     fn new(line: &str) -> First {
         let words: Vec<_> = line.split(' ').collect();
         match words[..] {
-            ["refused", _] => First {
+            ["refused", _] | ["refused", _, _] => First {
                 answer: line.to_string(),
                 closures: 0,
                 entries: 0,
@@ -151,14 +151,79 @@ fn sizes() {
 fn every_answer() {
     let lines = first_lines();
     let often = |answer: &str| {
-        let count = lines.iter().filter(|line| line.starts_with(answer)).count();
+        // With the line's end, since 1 begins 10 to 13 too.
+        let lines = lines.iter().map(|line| format!("{line}\n"));
+        let count = lines.filter(|line| line.starts_with(answer)).count();
         assert!(count >= 20, "{answer} {count}");
     };
     for answer in ["noncircular ", "circular ", "out-of-steps ", "out-of-room "] {
         often(answer);
     }
-    for number in 1..=7 {
-        often(&format!("refused {number}"));
+    for number in [1, 2, 3] {
+        often(&format!("refused {number}\n"));
+    }
+    for number in [4, 5, 7, 10, 11, 12, 13] {
+        often(&format!("refused {number} "));
+    }
+}
+
+/// 1 to 3 have no record, all others one; there is no 6.
+#[test]
+fn refusals_and_their_records() {
+    for line in first_lines() {
+        match line.split(' ').collect::<Vec<_>>()[..] {
+            ["refused", number] => assert!(["1", "2", "3"].contains(&number), "{line}"),
+            ["refused", number, record] => {
+                let numbers = ["4", "5", "7", "10", "11", "12", "13"];
+                assert!(numbers.contains(&number), "{line}");
+                assert!(record.parse::<u16>().unwrap() < 8192, "{line}");
+            }
+            _ => assert!(!line.starts_with("refused"), "{line}"),
+        }
+    }
+}
+
+/// Every number comes with the first record of its table (7 with the second,
+/// the first edge has none before it), with one between and with the last.
+#[test]
+fn refusals_at_every_place() {
+    let mut places = [[0; 3]; 14];
+    for (case, _) in answered() {
+        let Err(refusal) = read(&case.table) else {
+            continue;
+        };
+        let Some(record) = refusal.record() else {
+            continue;
+        };
+        let header = Header::of(&case.table);
+        let (first, count) = match refusal.number() {
+            4 => (0, header.symbols),
+            5 => (0, header.productions),
+            7 => (1, header.edges),
+            _ => (0, header.edges),
+        };
+        let seen = &mut places[refusal.number() as usize];
+        seen[0] += (record == first) as usize;
+        seen[1] += (first < record && record + 1 < count) as usize;
+        seen[2] += (record + 1 == count) as usize;
+    }
+    for number in [4, 5, 7, 10, 11, 12, 13] {
+        let seen = places[number];
+        assert!(seen.iter().all(|&count| count >= 8), "{number} {seen:?}");
+    }
+}
+
+/// Records whose number needs two bytes.
+#[test]
+fn refusals_at_late_records() {
+    let tables = parse(&files().stdin).into_iter().map(|case| case.table);
+    let refusals: Vec<_> = tables.filter_map(|table| read(&table).err()).collect();
+    for number in [5, 7, 10, 11, 12, 13] {
+        let late = refusals
+            .iter()
+            .filter(|refusal| refusal.number() == number)
+            .filter(|refusal| refusal.record() > Some(255));
+        assert!(late.count() >= 1, "{number}");
     }
 }
 

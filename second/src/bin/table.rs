@@ -48,6 +48,6 @@ fn make(input: Vec<u8>) -> Result<Vec<u8>, String> {
 }
 
 fn show(input: Vec<u8>) -> Result<Vec<u8>, String> {
-    let grammar = second::read(&input).map_err(|number| format!("refused {number}"))?;
+    let grammar = second::read(&input).map_err(|refusal| refusal.to_string())?;
     Ok(text::show(&grammar).into_bytes())
 }
