@@ -1,7 +1,8 @@
 /* The proved library, for C: link target/staticlib/libkusillaqe.a, which `rt staticlib kusillaqe` proves and makes, for x86-64.
  *
  * A slice passes as its address and its length. No address is NULL, also where the length is 0; each is aligned as its type asks; what
- * is written does not overlap anything else that is passed. Nothing else is asked: each function answers for every input.
+ * is written does not overlap anything else that is passed. Nothing else is asked: each function answers for every input. What is passed
+ * as const is only read, and nothing is kept after a function has returned.
  */
 #ifndef KUSILLAQE_H
 #define KUSILLAQE_H
@@ -23,18 +24,29 @@ enum {
     KUSILLAQE_MOST_BYTES = 58904
 };
 
+/* Stands where there is no record and no production: none has this number, so it cannot be taken for record 0. */
+#define KUSILLAQE_NONE UINT32_MAX
+
 /* Answers. */
 enum {
     /* No finite complete tree, rooted at any symbol, has a circle. Of a check: the table is good. */
     KUSILLAQE_NONCIRCULAR = 0,
-    /* A bad table: the first rule that it breaks. */
+    /* A bad table: the first rule that it breaks. These three have no record: fewer than 24 bytes; a count or the start symbol out of
+     * range; an offset or the total wrong. */
     KUSILLAQE_HEADER_SHORT = 1,
     KUSILLAQE_COUNTS = 2,
     KUSILLAQE_OFFSETS = 3,
+    /* The record is a symbol, a production. */
     KUSILLAQE_SYMBOL = 4,
     KUSILLAQE_PRODUCTION = 5,
-    KUSILLAQE_EDGE = 6,
+    /* The record is an edge, and the first bad one decides: its production is not there; the source's or the target's occurrence, or
+     * the attribute, is out of range; the target is not allowed; the edge is not above the one before. Looked at in this order: 10, 11,
+     * 12, 13, 7. There is no 6. */
     KUSILLAQE_EDGE_ORDER = 7,
+    KUSILLAQE_EDGE_PRODUCTION = 10,
+    KUSILLAQE_EDGE_OCCURRENCE = 11,
+    KUSILLAQE_EDGE_ATTRIBUTE = 12,
+    KUSILLAQE_EDGE_TARGET = 13,
     /* The limit was reached. */
     KUSILLAQE_OUT_OF_STEPS = 8,
     /* The room was used up. */
@@ -43,23 +55,37 @@ enum {
     KUSILLAQE_CIRCULAR = 255
 };
 
-/* The production and the entry numbers of the root of the shown tree are 0 unless the answer is circular; a production's count of right
- * symbols says how many of the seven count. */
+/* What a table breaks: the number of the first rule, 0 where it breaks none, and the first bad record, counted from 0 in its own table
+ * of symbols, productions or edges; KUSILLAQE_NONE where no rule is broken and for 1, 2 and 3. */
+struct kusillaqe_broken {
+    uint32_t rule;
+    uint32_t record;
+};
+
 struct kusillaqe_report {
+    /* One of the answers. */
     uint32_t answer;
-    uint32_t production;
+    /* Circular: the production at the root of the shown tree. A bad record: its number, as in kusillaqe_broken. Else KUSILLAQE_NONE. */
+    uint32_t value;
+    /* The closures made, the entries stored and the passes begun; all 0 for a bad table. */
     uint32_t closures;
     uint32_t entries;
     uint32_t passes;
+    /* Circular: the entry numbers of the root's right symbols, of which the production's count says how many there are. All others are
+     * 0, which is also an entry's number. */
     uint32_t root[KUSILLAQE_MOST_RIGHT];
 };
 
-/* The check of a table: 0, or the number of its refusal. */
-uint8_t kusillaqe_check(const uint8_t *table, size_t table_length);
+/* The check of a table. Both numbers of `broken` are written, whatever the table is. */
+void kusillaqe_check(const uint8_t *table, size_t table_length, struct kusillaqe_broken *broken);
 
 /* The circularity test of a table with at most `limit` closures. Entry i has place i of symbols, graphs and productions, and places 7i
- * to 7i + 6 of kids. The room is the least number of entries that one of the four can hold, and at most 4,096. The stored entries are
- * left at the front, and the rest as it was. */
+ * to 7i + 6 of kids: its symbol, its graph, in which the pair (a, b) is worth 2 to the power 8a + b, its production, and the entry
+ * numbers of that one's right symbols, the unused ones 0. The room is the least number of entries that one of the four can hold, and at
+ * most 4,096.
+ *
+ * Afterwards the first `entries` entries of each are the stored ones, and every place from there on is as it was; so after a bad table
+ * all four are as they were, and what is lent beyond 4,096 entries is always. All twelve numbers of `report` are written. */
 void kusillaqe_test(
     const uint8_t *table, size_t table_length,
     uint32_t limit,
@@ -71,15 +97,16 @@ void kusillaqe_test(
 
 /* What the test is made of. Bit j of row i says that an edge leads from node i to node j; node 8o + a is attribute a of occurrence o. */
 
-/* The edges of some edge records, six bytes each. */
+/* The edges of some edge records, six bytes each: all 64 rows are written. An edge between nodes that are not there adds nothing. */
 void kusillaqe_own_rows(const uint8_t *run, size_t run_length, uint64_t rows[64]);
-/* A subtree's pairs, placed at its occurrence. */
+/* A subtree's pairs are joined to the eight rows of its occurrence; the other rows are as they were, and all where there is no such
+ * occurrence. */
 void kusillaqe_place(uint64_t rows[64], uint64_t graph, size_t occurrence);
-/* The closure of the nodes of the first occurrences. */
+/* The closure of the nodes of the first occurrences, in their rows; the other rows are as they were. 8 occurrences are all. */
 void kusillaqe_close(uint64_t rows[64], size_t occurrences);
 /* Whether a node of the first occurrences leads to itself. */
 bool kusillaqe_has_circle(const uint64_t rows[64], size_t occurrences);
-/* The pairs among the nodes of the left symbol. */
+/* The pairs among the nodes of the left symbol: (a, b) is worth 2 to the power 8a + b. */
 uint64_t kusillaqe_root_graph(const uint64_t rows[64]);
 
 #ifdef __cplusplus

@@ -34,10 +34,10 @@ impl<'a> Report<'a> {
         let stored = Stored::new(table, entries, report.entries as u16);
         let answer = match report.answer {
             raw::NONCIRCULAR => Answer::Noncircular,
-            raw::CIRCULAR => Answer::Circular(stored.node(report.production as u16, report.root.map(|kid| kid as u16))),
+            raw::CIRCULAR => Answer::Circular(stored.node(report.value as u16, report.root.map(|kid| kid as u16))),
             raw::OUT_OF_STEPS => Answer::OutOfSteps,
             raw::OUT_OF_ROOM => Answer::OutOfRoom,
-            number => return Err(Refusal::numbered(number as u8)),
+            number => return Err(Refusal::numbered(number, report.value)),
         };
         Ok(Report {
             answer,

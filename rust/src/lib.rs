@@ -43,17 +43,20 @@ pub use refusal::Refusal;
 /// ```
 /// use kusillaqe::{Refusal, check};
 ///
-/// let table = std::fs::read("../samples/b.table")?;
+/// let mut table = std::fs::read("../samples/b.table")?;
 /// assert_eq!(check(&table), Ok(()));
 /// assert_eq!(check(&table[..23]), Err(Refusal::HeaderShort));
 /// assert_eq!(check(&table[..111]), Err(Refusal::Offsets));
+///
+/// // The production of the last edge, number 4.
+/// table[106] = 3;
+/// assert_eq!(check(&table), Err(Refusal::EdgeProduction(4)));
 /// # Ok::<(), std::io::Error>(())
 /// ```
 pub fn check(table: &[u8]) -> Result<(), Refusal> {
-    // SAFETY: the slice is `table.len()` bytes long and is only read.
-    match unsafe { library::kusillaqe_check(table.as_ptr(), table.len()) } {
-        0 => Ok(()),
-        number => Err(Refusal::numbered(number)),
+    match raw::check_numbers(table) {
+        raw::Broken { rule: 0, .. } => Ok(()),
+        raw::Broken { rule, record } => Err(Refusal::numbered(rule, record)),
     }
 }
 

@@ -1,10 +1,11 @@
 //! The library's functions as they are linked. A slice passes as its address and its length.
 
-use crate::raw::Report;
+use crate::raw::{Broken, Report};
 use crate::rows::Rows;
 
 unsafe extern "C" {
-    pub fn kusillaqe_check(table: *const u8, table_len: usize) -> u8;
+    // What is broken is two numbers of 32 bits.
+    pub fn kusillaqe_check(table: *const u8, table_len: usize, broken: *mut Broken);
     // The report is twelve numbers of 32 bits.
     pub fn kusillaqe_test(
         table: *const u8,

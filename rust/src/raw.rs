@@ -1,9 +1,12 @@
-//! The test as the library takes it: four slices of numbers, whose lengths may differ, and a report of twelve numbers. It is for
-//! programs that try the library; others call [`crate::test`].
+//! The check and the test as the library has them: what is broken as two numbers, four slices of numbers, whose lengths may differ, and
+//! a report of twelve numbers. It is for programs that try the library; others call [`crate::check`] and [`crate::test`].
 
 use crate::library;
 
-/// The answer's number where it is noncircular. 1 to 7 are the numbers of refusals.
+/// Stands where there is no record and no production: no record of a table has this number.
+pub const NONE: u32 = u32::MAX;
+
+/// The answer's number where it is noncircular. 1 to 5, 7 and 10 to 13 are the numbers of refusals.
 pub const NONCIRCULAR: u32 = 0;
 /// The answer's number where the limit was reached.
 pub const OUT_OF_STEPS: u32 = 8;
@@ -12,14 +15,45 @@ pub const OUT_OF_ROOM: u32 = 9;
 /// The answer's number where it is circular.
 pub const CIRCULAR: u32 = 255;
 
+/// What a table breaks.
+#[repr(C)]
+#[derive(Clone, Copy, Debug, Default, PartialEq, Eq)]
+pub struct Broken {
+    /// The number of the first rule that the table breaks, 0 where it breaks none.
+    pub rule: u32,
+    /// The number of the first bad record, counted from 0 in its own table; [`NONE`] where the rule is not of records.
+    pub record: u32,
+}
+
+/// The check of a table.
+///
+/// ```
+/// use kusillaqe::raw::{Broken, NONE, check_numbers};
+///
+/// let mut table = std::fs::read("../samples/b.table")?;
+/// assert_eq!(check_numbers(&table), Broken { rule: 0, record: NONE });
+/// assert_eq!(check_numbers(&table[..23]), Broken { rule: 1, record: NONE });
+/// // The count of attributes of symbol 0.
+/// table[24] = 9;
+/// assert_eq!(check_numbers(&table), Broken { rule: 4, record: 0 });
+/// # Ok::<(), std::io::Error>(())
+/// ```
+pub fn check_numbers(table: &[u8]) -> Broken {
+    let mut broken = Broken::default();
+    // SAFETY: the slice is `table.len()` bytes long and is only read, and `broken` is two numbers of 32 bits.
+    unsafe { library::kusillaqe_check(table.as_ptr(), table.len(), &mut broken) };
+    broken
+}
+
 /// The report's twelve numbers. Those of the root are 0 unless the answer is circular.
 #[repr(C)]
 #[derive(Clone, Copy, Debug, Default, PartialEq, Eq)]
 pub struct Report {
     /// The number of the answer.
     pub answer: u32,
-    /// The production at the root of the shown tree.
-    pub production: u32,
+    /// Where the answer is circular, the production at the root of the shown tree; where a record is bad, the number of the first bad
+    /// one; else [`NONE`].
+    pub value: u32,
     /// The closures made.
     pub closures: u32,
     /// The entries stored.
@@ -40,7 +74,7 @@ pub struct Report {
 /// let table = std::fs::read("../samples/b.table")?;
 /// let (mut symbols, mut graphs, mut productions, mut kids) = ([9; 2], [9; 3], [9; 4], [9; 30]);
 /// let report = test_slices(&table, 3, &mut symbols, &mut graphs, &mut productions, &mut kids);
-/// assert_eq!(report, Report { answer: 255, production: 0, closures: 3, entries: 2, passes: 2, root: [0; 7] });
+/// assert_eq!(report, Report { answer: 255, value: 0, closures: 3, entries: 2, passes: 2, root: [0; 7] });
 /// assert_eq!((symbols, graphs, productions), ([1, 1], [2052, 2048, 9], [1, 2, 9, 9]));
 /// assert!(kids[..14] == [0; 14] && kids[14..] == [9; 16]);
 /// # Ok::<(), std::io::Error>(())

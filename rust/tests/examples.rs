@@ -1,7 +1,8 @@
 //! The examples that README shows are those that are tested: the one in the wrapper's documentation, and c/example.c.
 
-use std::fs::{File, read_to_string};
-use std::process::Command;
+use std::fs::{read, read_to_string};
+use std::io::Write;
+use std::process::{Command, Stdio};
 
 #[test]
 fn in_c() {
@@ -12,14 +13,33 @@ fn in_c() {
         .status()
         .expect("cargo links by cc");
     assert!(compiled.success());
-    for (sample, told) in [
-        ("a", "answer 0, after 10 closures\n"),
-        ("b", "production 0 closes a circle, after 3 closures\n"),
+    let sample = |name: &str| read(format!("../samples/{name}.table")).expect("the sample is there");
+    let (a, b) = (sample("a"), sample("b"));
+    let mut bad = b.clone();
+    // The target of the last edge, number 4, becomes an inherited attribute of the left symbol.
+    bad[111] = 0;
+    for (table, told) in [
+        (&a[..], "answer 0, after 10 closures\n"),
+        (&b[..], "production 0 closes a circle, after 3 closures\n"),
+        (&b[..23], "rule 1 is broken\n"),
+        (&bad[..], "rule 13 is broken, first by record 4\n"),
     ] {
-        let table = File::open(format!("../samples/{sample}.table")).expect("the sample is there");
-        let output = Command::new(program).stdin(table).output().expect("it was compiled");
-        assert_eq!(String::from_utf8_lossy(&output.stdout), told);
+        assert_eq!(run(program, table), told);
     }
+}
+
+fn run(program: &str, table: &[u8]) -> String {
+    let mut started = Command::new(program)
+        .stdin(Stdio::piped())
+        .stdout(Stdio::piped())
+        .spawn()
+        .expect("it was compiled");
+    // What is written into is dropped, and so closed.
+    let mut input = started.stdin.take().expect("it is piped");
+    input.write_all(table).expect("it reads all");
+    drop(input);
+    let output = started.wait_with_output().expect("it ends");
+    String::from_utf8(output.stdout).expect("it prints words")
 }
 
 #[test]
