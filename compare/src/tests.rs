@@ -2,6 +2,7 @@
 //! lengths, each with numbers of its own in it and around it before, so that what must stay as before is seen; and through the wrapper,
 //! whose report is held to the second program's text.
 
+use crate::tables::numbers;
 use kusillaqe::{raw, Answer, Entries, Refusal, Report};
 use second::random::Random;
 use second::{make, Outcome};
@@ -85,7 +86,11 @@ fn wanted(outcome: &Outcome) -> raw::Report {
             second::Answer::Circular => 255,
             answer => answer.number().into(),
         },
-        production: outcome.root_production as u32,
+        value: match outcome.answer {
+            second::Answer::Circular => outcome.root_production as u32,
+            second::Answer::Refused(refusal) => numbers(Some(refusal)).record,
+            _ => raw::NONE,
+        },
         closures: outcome.closures,
         entries: outcome.entries() as u32,
         passes: outcome.passes,
@@ -138,7 +143,7 @@ fn through_the_wrapper(table: &[u8], limit: u32, room: usize, outcome: &Outcome)
     let found = text(kusillaqe::test(table, limit, &mut entries));
     let wanted = match second::read(table) {
         Ok(grammar) => second::report::print(&grammar, outcome),
-        Err(number) => format!("refused {number}\n"),
+        Err(refusal) => second::report::refused(refusal),
     };
     if found != wanted {
         let mut pairs = found.lines().zip(wanted.lines());
@@ -155,7 +160,10 @@ fn through_the_wrapper(table: &[u8], limit: u32, room: usize, outcome: &Outcome)
 fn text(result: Result<Report, Refusal>) -> String {
     match result {
         Ok(report) => lines(&report),
-        Err(refusal) => format!("refused {}\n", refusal.number()),
+        Err(refusal) => match refusal.record() {
+            Some(record) => format!("refused {} {record}\n", refusal.number()),
+            None => format!("refused {}\n", refusal.number()),
+        },
     }
 }
 
