@@ -1,7 +1,9 @@
 //! The proved library against a Rust program of the same passes, in one run: closures a second on each table, as a ratio; and how the
 //! time to an answer grows with the table where few closures are made. `bench [SECONDS]` for each measurement. The Rust program is
-//! measured twice: making every step of a closure, and leaving out those that change nothing, as the proved library does.
+//! measured twice: making every step of a closure, and leaving out those that change nothing, as the proved library does. `bench check
+//! [SECONDS [FILE..]]` measures the check alone.
 
+mod check;
 mod fast;
 
 use kusillaqe::{Answer, Entries, Node, Report};
@@ -13,7 +15,18 @@ const ROOM: usize = 1024;
 const TURNS: u32 = 10;
 
 fn main() {
-    let seconds = std::env::args().nth(1).and_then(|word| word.parse().ok()).unwrap_or(0.5);
+    let words: Vec<String> = std::env::args().skip(1).collect();
+    match words.split_first() {
+        Some((word, rest)) if word == "check" => check::measure(seconds(rest), rest.get(1..).unwrap_or(&[])),
+        _ => tests(seconds(&words)),
+    }
+}
+
+fn seconds(words: &[String]) -> f64 {
+    words.first().and_then(|word| word.parse().ok()).unwrap_or(0.5)
+}
+
+fn tests(seconds: f64) {
     println!(
         "{:<24} {:>9} {:>9} {:>12} {:>12} {:>7} {:>12} {:>7}",
         "table", "bytes", "closures", "proved /s", "Rust /s", "ratio", "leaving out", "ratio"
