@@ -4,24 +4,18 @@ ghost use Prim.Native.Nat.{_+_, _*_, _≤_, min};
 ghost use lib.ListN.{length, take, drop};
 ghost use Rattle.numbers.specs.Lists.{written};
 ghost use Rattle.rules.specs.Test as stated;
-ghost use Rattle.passes.specs.Slices.{lent, atEntry, atExit, Tells, entryAt, entriesTo};
-ghost use Rattle.records.specs.Records.{Tested, PlacesFor};
+ghost use Rattle.steps.specs.Slices.{entryIn};
+ghost use Rattle.passes.specs.Slices.{lent, atEntry, atExit, roomOf, Tells, entriesTo};
+ghost use Rattle.records.specs.Records.{RowTested};
+use grammar::SLOTS;
 use rules::Entry;
+use rules::MOST_ENTRIES;
 use rules::Report;
 
-// The seven slots of the entry at i.
-fn kids_of(kids: &[u16], i: usize) -> [u16; 7]
-    requires { ⌜ 7 * i + 7 ≤ length (now kids) ⌝ }
-    ensures { λ r. ⌜ r ≡ take 7 (drop (7 * i) (now (kids .entry))) ⌝ }
-{
-    let mut slots = [0u16; 7];
-    for k in 0..7 {
-        slots[k] = kids[7 * i + k];
-    }
-    slots
-}
+const KIDS: usize = SLOTS * MOST_ENTRIES;
 
-// The entry at i of the parallel slices.
+// The entry at i of the parallel slices; beyond their room the entry of zeros. The four are lent at one lifetime, as the walk over a row
+// lends them.
 fn entry_of<'a>(
     symbols: &'a [u16],
     graphs: &'a [u64],
@@ -29,15 +23,9 @@ fn entry_of<'a>(
     kids: &'a [u16],
     i: usize,
 ) -> Entry
-    requires { ⌜ PlacesFor (i + 1) (lent symbols graphs productions kids) ⌝ }
-    ensures { λ r. ⌜ r ≡ entryAt (atEntry symbols graphs productions kids) i ⌝ }
+    ensures { λ r. ⌜ r ≡ entryIn (atEntry symbols graphs productions kids) i ⌝ }
 {
-    Entry {
-        symbol: symbols[i],
-        graph: graphs[i],
-        production: productions[i],
-        kids: kids_of(kids, i),
-    }
+    steps::entry_of(symbols, graphs, productions, kids, i)
 }
 
 // The test over the first `room` places of the slices, and over 4,096 at most.
@@ -50,13 +38,13 @@ fn run<'t, 'a>(
     productions: &'a mut [u16],
     kids: &'a mut [u16],
 ) -> Report
-    requires { ⌜ PlacesFor 4096 (lent symbols graphs productions kids) ⌝ }
+    requires { ⌜ 4096 ≤ roomOf (lent symbols graphs productions kids) ⌝ }
     ensures { λ r. ⌜ Tells (stated.test (now (table .entry)) limit (min 4096 room))
         (atEntry symbols graphs productions kids) r
         (atExit symbols graphs productions kids) ⌝ }
 {
-    let most = numbers::smaller(4096, room);
-    let slots = 7 * most;
+    let most = numbers::smaller(MOST_ENTRIES, room);
+    let slots = SLOTS * most;
     passes::test(
         table,
         limit,
@@ -76,7 +64,7 @@ fn store<'e, 'a>(
     kids: &'a [u16],
     n: usize,
 )
-    requires { ⌜ (n ≤ length (now entries)) × PlacesFor n (lent symbols graphs productions kids) ⌝ }
+    requires { ⌜ (n ≤ length (now entries)) × (n ≤ roomOf (lent symbols graphs productions kids)) ⌝ }
     ensures { λ _. ⌜ now (entries .exit) ≡ written (entriesTo (atEntry symbols graphs productions kids) n) (now (entries .entry)) ⌝ }
 {
     let mut i: usize = 0;
@@ -90,12 +78,12 @@ fn store<'e, 'a>(
 // The circularity test of a table with at most `limit` closures. The stored entries are left at the front of the row, whose other records
 // are as before; records beyond 4,096 are never used.
 pub fn test(table: &[u8], limit: u32, entries: &mut [Entry]) -> Report
-    ensures { λ r. ⌜ Tested (now (table .entry)) limit (now (entries .entry)) r (now (entries .exit)) ⌝ }
+    ensures { λ r. ⌜ RowTested (now (table .entry)) limit (now (entries .entry)) r (now (entries .exit)) ⌝ }
 {
-    let mut symbols = [0u16; 4096];
-    let mut graphs = [0u64; 4096];
-    let mut productions = [0u16; 4096];
-    let mut kids = [0u16; 28672];
+    let mut symbols = [0u16; MOST_ENTRIES];
+    let mut graphs = [0u64; MOST_ENTRIES];
+    let mut productions = [0u16; MOST_ENTRIES];
+    let mut kids = [0u16; KIDS];
     let report = run(
         table,
         limit,

@@ -1,6 +1,6 @@
--- How an entry lies in memory, for every walk over a row, here and in `records`. No walk looks into an entry: it is read, stored and handed
--- on whole, by the names that stand here. So an entry with one field more changes `size` here (the factor of the index in `rt mir rows`), and
--- in the code what names the fields: `no_entry` here and `entry_of` in `records`; no walk changes.
+-- How an entry lies in memory, for every walk over a row, here, in `records` and in `agreement`. An entry is read, stored and handed on whole,
+-- by the names that stand here; only `agreement::alike` looks at its symbol and its graph. So an entry with one field more changes `size`
+-- here (the factor of the index in `rt mir rows`), and in the code what names the fields; a walk changes only where these two move.
 -- Assumes `Given`.
 use mathlib.Core.List.{List, [], _∷_}
 use Prim.Native.Nat.{ℕ, _*_, _<_, _^_}
@@ -43,6 +43,14 @@ vals = laws.vals entry.the-type of.the-laws
 
 pub tells : Tells Row (Is Row) vals
 tells = laws.tells entry.the-type of.the-laws
+
+-- the two fields that are looked at
+module _ (e : Entry) (g : Is Row e (vals e)) where
+  pub symbol-fits : e .symbol < 2 ^ 16
+  symbol-fits = laws.owed entry.the-type of.the-laws e _ g .0 .1
+
+  pub graph-fits : e .graph < 2 ^ 64
+  graph-fits = laws.owed entry.the-type of.the-laws e _ g .1 .0 .1
 
 module _ {M : Type 1} (𝓤 : URA M) (H : Heap 𝓤) (A : Atoms 𝓤) where
   pub makes : Makes 𝓤 H A Row (Is Row)

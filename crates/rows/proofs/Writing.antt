@@ -1,15 +1,27 @@
 -- A list that is written over the front of another, place by place. Assumes nothing.
 use mathlib.Core.Path.{_≡_, refl, sym, ap, _∙_}
 use mathlib.Core.List.{List, [], _∷_, _++_, append-assoc}
-use Prim.Native.Nat.{ℕ, _≤_, _<_}
+use Prim.Native.Nat.{ℕ, _+_, _-_, _≤_, _<_}
 use native.Mathlib.Omega.{arith}
-use lib.ListN.{length, set, take, drop, take-append-drop}
-use lib.Seq.{length-front, length-take-le, drop-append-le}
+use lib.ListN.{length, getD, set, take, drop, take-append-drop, List·getD-append}
+use lib.Seq.{length-front, length-take-le, drop-append-le, getD-append-add, getD-drop}
 use Rattle.numbers.specs.Lists.{written}
 
 module _ {A : Type 0} where
   pub length-written : (xs ys : List A) → length xs ≤ length ys → length (written xs ys) ≡ length ys
   length-written xs ys l = length-front ys xs (length xs) (sym (length-take-le (length xs) ys l))
+
+  -- what was written, and the rest as before
+  pub written-there : (xs ys : List A) (d : A) (i : ℕ) → i < length xs → getD (written xs ys) i d ≡ getD xs i d
+  written-there xs ys d i l = List·getD-append xs (drop (length xs) ys) d i l
+
+  pub written-rest : (xs ys : List A) (d : A) (i : ℕ) → length xs ≤ i → getD (written xs ys) i d ≡ getD ys i d
+  written-rest xs ys d i l =
+      let e : length xs + (i - length xs) ≡ i = omega arith in
+      ap (λ (j : ℕ). getD (written xs ys) j d) (sym e)
+      ∙ getD-append-add xs (drop (length xs) ys) (i - length xs) d
+      ∙ getD-drop (length xs) ys (i - length xs) d
+      ∙ ap (λ (j : ℕ). getD ys j d) e
 
   -- one more
   pub written-snoc : (xs ys : List A) (e : A) → length xs < length ys → set (written xs ys) (length xs) e ≡ written (xs ++ (e ∷ [])) ys

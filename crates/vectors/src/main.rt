@@ -1,49 +1,61 @@
-// Runs a corpus of tables, each with limits and rooms of its own, and prints of each run what `circ` would.
+// Runs a corpus of tables, each with limits and rooms of its own, and prints of each run what `circ` would. Each run is made over a row of
+// records too, and a line says where that gives anything else.
 //
 // A case of standard input is the length of a table (4 bytes), the table, the number of runs (1 byte), and for each run its limit
 // (4 bytes), its room (2 bytes) and whether entry lines are printed (1 byte).
 ghost use mathlib.Core.Path.{_≡_};
 ghost use Prim.Native.Nat.{_*_, _≤_};
 ghost use lib.ListN.{length};
+use grammar::SLOTS;
 use libc::STDIN_FILENO;
 use libc::STDOUT_FILENO;
+use lines::LINE_BYTES;
 use rules::Answer;
+use rules::MOST_ENTRIES;
 use rules::Report;
+
+// Any table, good or bad, that a case has.
+const TABLE_BYTES: usize = 65535;
+
+const KIDS: usize = SLOTS * MOST_ENTRIES;
+
+// For the line of each entry, and for two more.
+const TEXT_BYTES: usize = LINE_BYTES * (MOST_ENTRIES + 2);
 
 // Whether the input had enough for the whole buffer.
 fn fill(buf: &mut [u8]) -> bool {
     io::read_full(STDIN_FILENO, buf) == buf.len()
 }
 
-fn table_buffer() -> [u8; 65535]
+// Each buffer is made by a function: a proof then goes by its length, and does not write out what it holds.
+fn table_buffer() -> [u8; TABLE_BYTES]
     ensures { λ r. ⌜ 65535 ≡ length r ⌝ }
 {
-    [0; 65535]
+    [0; TABLE_BYTES]
 }
 
-// 128 bytes for the line of each of 4,096 entries, and for two more.
-fn text_buffer() -> [u8; 524544]
+fn text_buffer() -> [u8; TEXT_BYTES]
     ensures { λ r. ⌜ 524544 ≡ length r ⌝ }
 {
-    [0; 524544]
+    [0; TEXT_BYTES]
 }
 
-fn numbers() -> [u16; 4096]
+fn zero_numbers() -> [u16; MOST_ENTRIES]
     ensures { λ r. ⌜ 4096 ≡ length r ⌝ }
 {
-    [0; 4096]
+    [0; MOST_ENTRIES]
 }
 
-fn graphs() -> [u64; 4096]
+fn zero_graphs() -> [u64; MOST_ENTRIES]
     ensures { λ r. ⌜ 4096 ≡ length r ⌝ }
 {
-    [0; 4096]
+    [0; MOST_ENTRIES]
 }
 
-fn kids() -> [u16; 28672]
+fn zero_kids() -> [u16; KIDS]
     ensures { λ r. ⌜ 28672 ≡ length r ⌝ }
 {
-    [0; 28672]
+    [0; KIDS]
 }
 
 // The count is that of a text in the buffer, so the test never fails.
@@ -103,7 +115,7 @@ fn tested(
         &mut symbols[..room],
         &mut graphs[..room],
         &mut productions[..room],
-        &mut kids[..7 * room],
+        &mut kids[..SLOTS * room],
     )
 }
 
@@ -113,11 +125,12 @@ fn one_run(table: &[u8]) -> bool {
         return false;
     }
     let limit = numbers::four_at(&asked, 0);
-    let room = numbers::smaller(numbers::wide(numbers::two_at(&asked, 4)), 4096);
-    let mut symbols = numbers();
-    let mut graphs = graphs();
-    let mut productions = numbers();
-    let mut kids = kids();
+    let room = numbers::smaller(numbers::wide(numbers::two_at(&asked, 4)), MOST_ENTRIES);
+    let whole = numbers::byte_at(&asked, 6) == 1;
+    let mut symbols = zero_numbers();
+    let mut graphs = zero_graphs();
+    let mut productions = zero_numbers();
+    let mut kids = zero_kids();
     let report = tested(
         table,
         limit,
@@ -127,7 +140,19 @@ fn one_run(table: &[u8]) -> bool {
         &mut productions,
         &mut kids,
     );
-    if numbers::byte_at(&asked, 6) == 1 {
+    if !agreement::agrees(
+        table,
+        limit,
+        room,
+        report,
+        &symbols,
+        &graphs,
+        &productions,
+        &kids,
+    ) {
+        io::write_all(STDOUT_FILENO, b"the row of records differs\n");
+    }
+    if whole {
         print_whole(table, report, &symbols, &graphs, &productions, &kids);
     } else {
         print_short(table, report);

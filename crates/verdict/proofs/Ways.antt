@@ -31,7 +31,7 @@ use Rattle.rules.proofs.Stored.{length-seven, counted-test}
 use Rattle.passes.specs.Slices as slices
 use Rattle.passes.proofs.Following.{drop-later}
 use Rattle.rows.proofs.Writing.{length-written}
-use Rattle.records.specs.Records.{roomOf, Tested}
+use Rattle.records.specs.Records.{rowRoom, RowTested}
 use Rattle.kusillaqe.specs.Flat.{flat}
 use Rattle.orders.specs.Answers as runs
 use Rattle.orders.specs.Stored.{In, Slots}
@@ -51,22 +51,22 @@ program κs a r s promised = carried (now (a .0)) (a .1 .0) (slicesGiven κs a) 
 
 -- ---- over a lent row of records
 
-module _ (bs : List ℕ) (limit : ℕ) (before : List Entry) (r : Report) (after : List Entry) (promised : Tested bs limit before r after) where
+module _ (bs : List ℕ) (limit : ℕ) (before : List Entry) (r : Report) (after : List Entry) (promised : RowTested bs limit before r after) where
   abbrev R : ℕ
-  R = roomOf before
+  R = rowRoom before
 
-  row-count : length (back bs limit (roomOf before) .entries) ≡ r .entries
+  row-count : length (back bs limit (rowRoom before) .entries) ≡ r .entries
   row-count = sym (ap (λ (x : Report). x .entries) (promised .report) ∙ counted-test bs limit R .count)
 
-  row-front : take (r .entries) after ≡ back bs limit (roomOf before) .entries
+  row-front : take (r .entries) after ≡ back bs limit (rowRoom before) .entries
   row-front =
       let es = back bs limit R .entries in
       ap (take (r .entries)) (promised .entries) ∙ take-at es (drop (length es) before) (r .entries) row-count
 
-  row-untouched : (o : Outcome) → back bs limit (roomOf before) ≡ o → o .entries ≡ [] → after ≡ before
+  row-untouched : (o : Outcome) → back bs limit (rowRoom before) ≡ o → o .entries ≡ [] → after ≡ before
   row-untouched o h none = promised .entries ∙ ap (λ (es : List Entry). written es before) (ap (λ (x : Outcome). x .entries) h ∙ none)
 
-  row-few : r .entries ≤ roomOf before
+  row-few : r .entries ≤ rowRoom before
   row-few = omega (arith, counted-test bs limit R .sound .fits, row-count)
 
   row-rest : drop (r .entries) after ≡ drop (r .entries) before

@@ -31,7 +31,7 @@ use Rattle.texts.specs.Lines.{kidsIn, printed}
 use Rattle.passes.specs.Slices.{Slices, slices}
 use Rattle.passes.proofs.test.Kinds as slices-kinds
 use Rattle.passes.proofs.test.Reads as slices-reads
-use Rattle.records.specs.Records.{roomOf}
+use Rattle.records.specs.Records.{rowRoom}
 use Rattle.records.proofs.test as row
 use Rattle.kusillaqe.specs.Flat.{flat}
 use Rattle.kusillaqe.proofs.kusillaqe_test.Kinds as export-kinds
@@ -69,15 +69,15 @@ readRow r row = record { report = r; entries = take (r .entries) row }
 
 pub record RowProgram (bs : List ℕ) (limit : ℕ) (before : List Entry) (r : Report) (after : List Entry) : Type 0 where
   -- the report with its counts and its root, every entry, and the rest of the row; after a refusal all of it
-  pub report : r ≡ back bs limit (roomOf before) .report
+  pub report : r ≡ back bs limit (rowRoom before) .report
   pub long : length after ≡ length before
-  pub entries : (k : ℕ) → k < r .entries → entry after k ≡ entry (back bs limit (roomOf before) .entries) k
+  pub entries : (k : ℕ) → k < r .entries → entry after k ≡ entry (back bs limit (rowRoom before) .entries) k
   pub rest : drop (r .entries) after ≡ drop (r .entries) before
   -- however many records are lent, those beyond 4,096 are never used
   pub beyond : drop 4096 after ≡ drop 4096 before
   pub untouched : (b : Broken) → Breaks bs b → after ≡ before
-  pub whole : readRow r after ≡ back bs limit (roomOf before)
-  pub demanded : Demanded bs limit (roomOf before) (readRow r after)
+  pub whole : readRow r after ≡ back bs limit (rowRoom before)
+  pub demanded : Demanded bs limit (rowRoom before) (readRow r after)
 
 -- the functions over a row have no plain reading of their promise, so this is said in the logic: in every model, whoever has the promise
 -- has all this

@@ -16,11 +16,10 @@ use Rattle.passes.specs.Slices.{Slices, slices, roomOf, allKids, Tells, Tested}
 use Rattle.passes.proofs.Testing.{tells-same}
 use Rattle.passes.proofs.Told.{length-kids}
 use Rattle.rows.proofs.Writing.{written-front}
-use Rattle.records.specs.Records.{PlacesFor}
 use Rattle.records.proofs.run.Statement.{statement}
 use Rattle.records.proofs.run.Tie as tie
 
-module _ (bs : List ℕ) (limit room n : ℕ) (σ : Slices) (places : PlacesFor 4096 σ) (most : n ≡ min 4096 room) where
+module _ (bs : List ℕ) (limit room n : ℕ) (σ : Slices) (places : 4096 ≤ roomOf σ) (most : n ≡ min 4096 room) where
   -- the parts that are lent
   abbrev lent : Slices
   lent = slices (take n (σ .symbols)) (take n (σ .graphs)) (take n (σ .productions)) (take (7 * n) (σ .kids))
@@ -32,15 +31,15 @@ module _ (bs : List ℕ) (limit room n : ℕ) (σ : Slices) (places : PlacesFor 
   room-is =
       omega (
         arith,
-        places .0,
-        places .1,
-        places .2,
-        places .3,
+        places,
+        places,
+        places,
+        places,
         most,
-        length-take-le n (σ .symbols) (omega (arith, places .0)),
-        length-take-le n (σ .graphs) (omega (arith, places .1)),
-        length-take-le n (σ .productions) (omega (arith, places .2)),
-        length-take-le (7 * n) (σ .kids) (omega (arith, places .3)),
+        length-take-le n (σ .symbols) (omega (arith, places)),
+        length-take-le n (σ .graphs) (omega (arith, places)),
+        length-take-le n (σ .productions) (omega (arith, places)),
+        length-take-le (7 * n) (σ .kids) (omega (arith, places)),
       )
 
   counted : Counted n o
@@ -66,12 +65,12 @@ module _ (bs : List ℕ) (limit room n : ℕ) (σ : Slices) (places : PlacesFor 
         tells-same (ap (test bs limit) most)
         (record {
           report = part .report;
-          symbols = field (λ e. e .symbol) (σ .symbols) (τ .symbols) (part .symbols) (omega (arith, places .0));
-          graphs = field (λ e. e .graph) (σ .graphs) (τ .graphs) (part .graphs) (omega (arith, places .1));
-          productions = field (λ e. e .production) (σ .productions) (τ .productions) (part .productions) (omega (arith, places .2));
+          symbols = field (λ e. e .symbol) (σ .symbols) (τ .symbols) (part .symbols) (omega (arith, places));
+          graphs = field (λ e. e .graph) (σ .graphs) (τ .graphs) (part .graphs) (omega (arith, places));
+          productions = field (λ e. e .production) (σ .productions) (τ .productions) (part .productions) (omega (arith, places));
           kids =
               over (7 * n) (allKids (o .entries)) (σ .kids) (τ .kids) (part .kids)
-              (omega (arith, length-kids (o .entries) (counted .sound .slots), counted .sound .fits)) (omega (arith, places .3));
+              (omega (arith, length-kids (o .entries) (counted .sound .slots), counted .sound .fits)) (omega (arith, places));
         })
 
 smaller-requires : tie.Need-smaller-requires

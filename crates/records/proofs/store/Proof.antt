@@ -50,7 +50,7 @@ use denote.Triple.Walked.{says, needs, Stays, stay-slice, stay-none-slice, stay-
 use denote.Exit.{yes}
 use Rattle.numbers.specs.Lists.{written}
 use Rattle.rules.specs.declared.Entry.{Entry}
-use Rattle.passes.specs.Slices.{entryAt, entriesTo}
+use Rattle.passes.specs.Slices.{roomOf, entryAt, entriesTo}
 use Rattle.passes.proofs.Entries.{length-entries}
 use Rattle.rows.proofs.InMemory.{Row, entryTy, vals, tells, makes, typed}
 use Rattle.rows.proofs.Walking.{spare, held, locals, lets-go, Left, gives-last}
@@ -60,7 +60,8 @@ use Rattle.rows.proofs.put_entry as put
 use Rattle.rows.proofs.put_entry.Symbol as put-def
 use Rattle.rows.proofs.put_entry.Symbol.{name as #rows·put-entry}
 use Rattle.rows.proofs.put_entry.Met as put-thm
-use Rattle.records.specs.Records.{PlacesFor}
+use Rattle.steps.specs.Slices.{entryIn}
+use Rattle.records.proofs.EntryIn.{entry-in}
 use Rattle.records.proofs.Four.{Four, slicesOf, Owned, Of, twice, to-of, goes-of, gives-of}
 use Rattle.records.proofs.entry_of.Symbol as of-def
 use Rattle.records.proofs.entry_of.Symbol.{name as #records·entry-of}
@@ -94,7 +95,7 @@ abbrev Put : {M : Type 1} (𝓤 : URA M) (H : Heap 𝓤) (A : Atoms 𝓤) (mem :
 Put 𝓤 H A mem run = tripleOf 𝓤 H A put.signature (put.spec 𝓤 H A mem run)
 
 module _ {M : Type 1} (𝓤 : URA M) (H : Heap 𝓤) (A : Atoms 𝓤) (W : Given 𝓤 H A) (mem : Memory → SProp 𝓤) (run : Routine → Fun 𝓤) (κ κ′ : Lft) (bounds : AllOutlive 2 (f.signature .outlives) (κ, (κ′, tt))) (q q′ : Share)
-    (b o : ℕ) (γ : GName) (ys : List Entry) (a : Four) (n : ℕ) (gn : n < 2 ^ 64) (room : Room Row (length ys)) (asked : (n ≤ length ys) × PlacesFor n (slicesOf a)) where
+    (b o : ℕ) (γ : GName) (ys : List Entry) (a : Four) (n : ℕ) (gn : n < 2 ^ 64) (room : Room Row (length ys)) (asked : (n ≤ length ys) × (n ≤ roomOf (slicesOf a))) where
   abbrev Arg : Type 0
   Arg = RefT (List Entry) × (RefT (List ℕ) × (RefT (List ℕ) × (RefT (List ℕ) × (RefT (List ℕ) × (ℕ × Unit {0})))))
 
@@ -120,10 +121,11 @@ module _ {M : Type 1} (𝓤 : URA M) (H : Heap 𝓤) (A : Atoms 𝓤) (W : Given
   long : (i : ℕ) → i ≤ n → length (stored i) ≡ length ys
   long i l = length-written (entriesTo (slicesOf a) i) ys (omega (arith, length-entries (slicesOf a) i, asked .0))
 
-  more : (i : ℕ) → i < n → set (stored i) i (entryAt (slicesOf a) i) ≡ stored (i + 1)
+  more : (i : ℕ) → i < n → set (stored i) i (entryIn (slicesOf a) i) ≡ stored (i + 1)
   unfolding entriesTo
   more i l =
-      ap (λ (j : ℕ). set (stored i) j (entryAt (slicesOf a) i)) (sym (length-entries (slicesOf a) i))
+      ap (set (stored i) i) (entry-in (slicesOf a) i (omega (arith, l, asked .1)))
+      ∙ ap (λ (j : ℕ). set (stored i) j (entryAt (slicesOf a) i)) (sym (length-entries (slicesOf a) i))
       ∙ written-snoc (entriesTo (slicesOf a) i) ys (entryAt (slicesOf a) i) (omega (arith, length-entries (slicesOf a) i, asked .0))
       ∙ ap stored (sym (add-one i))
 
@@ -204,7 +206,7 @@ module _ {M : Type 1} (𝓤 : URA M) (H : Heap 𝓤) (A : Atoms 𝓤) (W : Given
         stays ! (load ! (from ! (stop !)) (look ! 10 refl)) $
         -- the entry is made
         move ! (3 ∷ []) $ use1 W (‵ (Owned κ′ a) ⊛ ‵ (Owned κ′ a)) (twice 𝓤 H A mem run W κ′ q′ a) $ split ! $ move ! (4 ∷ 0 ∷ []) $
-        use2 W (raw (Of 𝓤 H A mem run .pre (to-of 𝓤 H A mem run W κ′ q′ a (i .0)))) (goes-of 𝓤 H A mem run W κ′ q′ a (i .0) i-fits places) $
+        use2 W (raw (Of 𝓤 H A mem run .pre (to-of 𝓤 H A mem run W κ′ q′ a (i .0)))) (goes-of 𝓤 H A mem run W κ′ q′ a (i .0) i-fits) $
         -- [what is passed; the four slices; the row; its token; _12 at 4; …]
         calls-at ! (fmOf 𝓤 H (W .laws) 𝓣) (Of 𝓤 H A mem run) of-known (to-of 𝓤 H A mem run W κ′ q′ a (i .0))
         (and-then ! (load ! (from ! (stop !)) (look ! 24 refl)) (and-then ! (load ! (from ! (stop !)) (look ! 22 refl)) (and-then ! (load ! (from ! (stop !)) (look ! 20 refl)) (and-then ! (load ! (from ! (stop !)) (look ! 18 refl)) (and-then ! (load ! (from ! (stop !)) (look ! 14 refl)) (no-more !)))))) (λ v.
@@ -236,7 +238,7 @@ module _ {M : Type 1} (𝓤 : URA M) (H : Heap 𝓤) (A : Atoms 𝓤) (W : Given
         again ! Nearer At i (i .0 + 1, omega (arith, less)) (omega (arith, less)))))))))))
       where
         e : Entry
-        e = entryAt (slicesOf a) (i .0)
+        e = entryIn (slicesOf a) (i .0)
 
         zs : List Entry
         zs = stored (i .0)
@@ -246,9 +248,6 @@ module _ {M : Type 1} (𝓤 : URA M) (H : Heap 𝓤) (A : Atoms 𝓤) (W : Given
 
         next-fits : i .0 + 1 < 2 ^ 64
         next-fits = omega (arith, less, gn)
-
-        places : PlacesFor (i .0 + 1) (slicesOf a)
-        places = (omega (arith, less, asked .1 .0), omega (arith, less, asked .1 .1), omega (arith, less, asked .1 .2), omega (arith, less, asked .1 .3))
 
         is : (v : Val) → Is Row e (v ∷ []) → Is Row e (vals e)
         is v g = subst (Is Row e) (tells e (v ∷ []) g) g
@@ -295,7 +294,7 @@ store-meets 𝓤 H A W mem run 𝓣 of-known put-known =
     (walked 𝓤 H A f.ended stayed (f.clauses 𝓤 H A mem run) (WpFn 𝓤 H (𝓣 .C) (𝓣 .Λ) code.function)
     (λ κs. (slice-vals, (slice-vals, (slice-vals, (slice-vals, (slice-vals, (uint-vals w64, tt)))))))
     (λ κs. (mut-slice-tells (named 0) (κs .0) Row, (shr-slice-tells (named 1) (κs .1 .0) u16, (shr-slice-tells (named 1) (κs .1 .0) u64, (shr-slice-tells (named 1) (κs .1 .0) u16, (shr-slice-tells (named 1) (κs .1 .0) u16, (uint-tells w64, tt)))))))
-    (λ κs qs bounds a g are. needs 𝓤 ((a .1 .1 .1 .1 .1 .0 ≤ length (a .0 .now)) × PlacesFor (a .1 .1 .1 .1 .1 .0) (slicesOf (a .1 .0, (a .1 .1 .0, (a .1 .1 .1 .0, a .1 .1 .1 .1 .0))))) _ (λ asked.
+    (λ κs qs bounds a g are. needs 𝓤 ((a .1 .1 .1 .1 .1 .0 ≤ length (a .0 .now)) × (a .1 .1 .1 .1 .1 .0 ≤ roomOf (slicesOf (a .1 .0, (a .1 .1 .0, (a .1 .1 .1 .0, a .1 .1 .1 .1 .0)))))) _ (λ asked.
     walk 𝓤 H A W mem run (κs .0) (κs .1 .0) bounds (qs .0) (qs .1 .0) (a .0 .ptr .0) (a .0 .ptr .1) (a .0 .name) (a .0 .now) (a .1 .0, (a .1 .1 .0, (a .1 .1 .1 .0, a .1 .1 .1 .1 .0))) (a .1 .1 .1 .1 .1 .0) (are .1 .1 .1 .1 .1 .0 .1) (are .0 .0 .1) asked 𝓣 of-known put-known
     (are .1 .0) (are .1 .1 .0) (are .1 .1 .1 .0) (are .1 .1 .1 .1 .0))))
 
