@@ -1,9 +1,12 @@
 //! The time of the check alone: on the longest table, and on the tables of the files that are named. With an earlier archive of the
 //! library, which KUSILLAQE_BEFORE names when this is built, its check is measured beside the present one, by turns.
 
-use crate::{rate, TURNS};
+use crate::rate;
 use kusillaqe::raw::{self, Broken};
 use second::{known, write};
+
+/// Many short turns, of each check the fastest: a check is short, and other work on the machine meets only some of them.
+const TURNS: u32 = 200;
 
 pub fn measure(seconds: f64, files: &[String]) {
     println!(
