@@ -17,8 +17,8 @@
 //! edges of a production may stand in any order.
 
 use crate::table::{
-    inherited, Edge, Grammar, Production, Symbol, MOST_ATTRIBUTES, MOST_EDGES, MOST_PRODUCTIONS,
-    MOST_RIGHT, MOST_SYMBOLS,
+    inherited, Edge, Grammar, Production, Refusal, Symbol, MOST_ATTRIBUTES, MOST_EDGES,
+    MOST_PRODUCTIONS, MOST_RIGHT, MOST_SYMBOLS,
 };
 use std::fmt::{self, Write};
 
@@ -35,6 +35,32 @@ impl fmt::Display for TextError {
     }
 }
 
+/// The line, counted from 1, of each record of the table that a text makes,
+/// in the order of the table.
+#[derive(Clone, Debug, PartialEq, Eq)]
+pub struct Lines {
+    pub symbols: Vec<usize>,
+    pub productions: Vec<usize>,
+    pub edges: Vec<usize>,
+}
+
+impl Lines {
+    /// The line of the bad record, if the refusal has one.
+    pub fn of(&self, refusal: Refusal) -> Option<usize> {
+        let lines = match refusal {
+            Refusal::HeaderShort | Refusal::Counts | Refusal::Offsets => return None,
+            Refusal::Symbol(_) => &self.symbols,
+            Refusal::Production(_) => &self.productions,
+            Refusal::EdgeOrder(_)
+            | Refusal::EdgeProduction(_)
+            | Refusal::EdgeOccurrence(_)
+            | Refusal::EdgeAttribute(_)
+            | Refusal::EdgeTarget(_) => &self.edges,
+        };
+        lines.get(refusal.record()?).copied()
+    }
+}
+
 struct Line<'a> {
     number: usize,
     indented: bool,
@@ -47,16 +73,25 @@ struct Name<'a> {
     attributes: Vec<&'a str>,
 }
 
-/// The grammar read so far, and its names.
+/// The grammar read so far, its names, and the lines of its records, those of
+/// the edges for each production as its edges stand.
 struct Reader<'a> {
     grammar: Grammar,
     names: Vec<Name<'a>>,
     start: Option<usize>,
     edges: usize,
+    symbol_lines: Vec<usize>,
+    production_lines: Vec<usize>,
+    edge_lines: Vec<Vec<usize>>,
 }
 
 /// The grammar of a text.
 pub fn make(text: &str) -> Result<Grammar, TextError> {
+    make_with_lines(text).map(|(grammar, _)| grammar)
+}
+
+/// The grammar of a text, and the line of each record.
+pub fn make_with_lines(text: &str) -> Result<(Grammar, Lines), TextError> {
     let lines = lines(text);
     let mut reader = Reader {
         grammar: Grammar {
@@ -67,10 +102,14 @@ pub fn make(text: &str) -> Result<Grammar, TextError> {
         names: Vec::new(),
         start: None,
         edges: 0,
+        symbol_lines: Vec::new(),
+        production_lines: Vec::new(),
+        edge_lines: Vec::new(),
     };
     // Symbols first, so that a production may stand above its symbols.
     for line in lines.iter().filter(|line| line.is("symbol")) {
         reader.symbol(&line.words[1..]).map_err(|m| line.error(m))?;
+        reader.symbol_lines.push(line.number);
     }
     for line in lines.iter().filter(|line| !line.is("symbol")) {
         reader.other(line).map_err(|m| line.error(m))?;
@@ -78,7 +117,12 @@ pub fn make(text: &str) -> Result<Grammar, TextError> {
     match reader.start {
         Some(start) => {
             reader.grammar.start = start;
-            Ok(reader.grammar)
+            let lines = Lines {
+                symbols: reader.symbol_lines,
+                productions: reader.production_lines,
+                edges: reader.edge_lines.concat(),
+            };
+            Ok((reader.grammar, lines))
         }
         None => Err(TextError {
             line: text.lines().count().max(1),
@@ -190,10 +234,10 @@ impl<'a> Reader<'a> {
     /// A line that is no symbol line.
     fn other(&mut self, line: &Line) -> Result<(), String> {
         match line.words.as_slice() {
-            words if line.indented => self.edge(words),
+            words if line.indented => self.edge(words, line.number),
             ["start", name] => self.start(name),
             ["start", ..] => Err("expected: start NAME".to_string()),
-            ["production", left, "->", right @ ..] => self.production(left, right),
+            ["production", left, "->", right @ ..] => self.production(left, right, line.number),
             ["production", ..] => Err("expected: production LEFT -> RIGHT RIGHT".to_string()),
             words => Err(format!(
                 "a line begins with symbol, start, production or a blank, not with {}",
@@ -210,7 +254,7 @@ impl<'a> Reader<'a> {
         Ok(())
     }
 
-    fn production(&mut self, left: &str, right: &[&str]) -> Result<(), String> {
+    fn production(&mut self, left: &str, right: &[&str], line: usize) -> Result<(), String> {
         at_most(right.len(), MOST_RIGHT, "right symbols")?;
         let left = self.find(left)?;
         let right = right.iter().map(|name| self.find(name));
@@ -221,10 +265,12 @@ impl<'a> Reader<'a> {
             right,
             edges: Vec::new(),
         });
+        self.production_lines.push(line);
+        self.edge_lines.push(Vec::new());
         at_most(productions.len(), MOST_PRODUCTIONS, "productions")
     }
 
-    fn edge(&mut self, words: &[&str]) -> Result<(), String> {
+    fn edge(&mut self, words: &[&str], line: usize) -> Result<(), String> {
         let [source, "->", target] = words else {
             return Err("expected: OCCURRENCE.ATTRIBUTE -> OCCURRENCE.ATTRIBUTE".to_string());
         };
@@ -251,11 +297,12 @@ impl<'a> Reader<'a> {
             target_occurrence,
             target_attribute,
         };
-        self.add_edge(edge)
+        self.add_edge(edge, line)
     }
 
-    /// Keeps the edges of the last production ascending.
-    fn add_edge(&mut self, edge: Edge) -> Result<(), String> {
+    /// Keeps the edges of the last production ascending, and their lines with
+    /// them.
+    fn add_edge(&mut self, edge: Edge, line: usize) -> Result<(), String> {
         self.edges += 1;
         at_most(self.edges, MOST_EDGES, "edges")?;
         let last = self.grammar.productions.len() - 1;
@@ -264,6 +311,7 @@ impl<'a> Reader<'a> {
             Ok(_) => Err("this edge is there already".to_string()),
             Err(place) => {
                 edges.insert(place, edge);
+                self.edge_lines[last].insert(place, line);
                 Ok(())
             }
         }

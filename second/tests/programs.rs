@@ -42,6 +42,11 @@ fn table() {
     let made = call(program, &["make"], &shown.stdout);
     assert_eq!(made.stdout, table);
 
+    let text = b"start X\nsymbol X synthesized a b\nproduction X ->\n  0.b -> 0.a\n  0.a -> 0.a\n";
+    let told = call(program, &["lines"], text).stdout;
+    let wanted = "symbol 0 line 2\nproduction 0 line 3\nedge 0 line 5\nedge 1 line 4\n";
+    assert_eq!(String::from_utf8(told).unwrap(), wanted);
+
     let failed = |arguments: &[&str], input: &[u8], message: &str| {
         let output = call(program, arguments, input);
         assert_eq!(output.status.code(), Some(1));

@@ -1,6 +1,7 @@
 //! The text form.
 
-use second::{known, make, read, text, write};
+use second::table::Header;
+use second::{known, make, read, refusal, text, write};
 
 #[test]
 fn tables_come_back() {
@@ -59,6 +60,43 @@ symbol L synthesized v l inherited s
 symbol N synthesized v
 ";
     assert_eq!(text::make(text).unwrap(), known::knuth());
+}
+
+/// The lines of the records in the table's order, whatever the text's.
+#[test]
+fn lines_of_records() {
+    let text = "\
+production X -> X
+  1.s -> 0.s
+  0.i -> 0.s
+
+  0.i -> 1.i
+start X
+production X ->
+  0.i -> 0.s
+symbol X inherited i synthesized s
+";
+    let (grammar, lines) = text::make_with_lines(text).unwrap();
+    assert_eq!(grammar, text::make(text).unwrap());
+    assert_eq!(lines.symbols, [9]);
+    assert_eq!(lines.productions, [1, 7]);
+    assert_eq!(lines.edges, [3, 5, 2, 8]);
+    let table = write(&grammar);
+    let edges = Header::of(&table).edges_at();
+    let refused = |at: usize, value: u8| {
+        let mut bad = table.clone();
+        bad[at] = value;
+        lines.of(refusal(&bad).unwrap())
+    };
+    // The attribute of the third edge's source, and its target.
+    assert_eq!(refused(edges + 6 * 2 + 3, 2), Some(2));
+    assert_eq!(refused(edges + 6 * 2 + 5, 0), Some(2));
+    // An edge that is not above the one before: the later one is named.
+    assert_eq!(refused(edges + 6 * 3, 0), Some(8));
+    // The count of attributes, the second production's left symbol, the total.
+    assert_eq!(refused(24, 9), Some(9));
+    assert_eq!(refused(24 + 2 + 18, 1), Some(7));
+    assert_eq!(refused(20, 0), None);
 }
 
 #[test]
