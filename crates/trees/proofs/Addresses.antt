@@ -39,13 +39,15 @@ module _ (g : Grammar) where
     kid-node (cons t ks) zero x y e = (t, first, to-node t x y e)
     kid-node (cons t ks) (suc i) x y e = let r = kid-node ks i x y e in (r .0, later (r .1), r .2)
 
-  of-node : {t s : Tree} {d : List ℕ} → Subtree t d s → (u v : Instance) → TreeEdge g s u v → TreeEdge g t (inside d u) (inside d v)
-  of-node whole u v e = e
-  of-node (down {d = d} k s) u v e = Joined.kid (kid-edge k (inside d u) (inside d v) (of-node s u v e))
+  -- an edge of a subtree is an edge of the whole tree
+  pub edge-inside :
+      {t s : Tree} {d : List ℕ} → Subtree t d s → (u v : Instance) → TreeEdge g s u v → TreeEdge g t (inside d u) (inside d v)
+  edge-inside whole u v e = e
+  edge-inside (down {d = d} k s) u v e = Joined.kid (kid-edge k (inside d u) (inside d v) (edge-inside s u v e))
 
   -- an edge of the tree is an edge of some node's production, at that node
   pub each-at-its-node : (t : Tree) (x y : Instance) → TreeEdge g t x y ↔ AtNode g t x y
   each-at-its-node t x y = (
     to-node t x y,
-    λ n. subst₂ (TreeEdge g t) (sym (n .from)) (sym (n .to)) (of-node (n .stands) (n .u) (n .v) (Joined.own (n .edge))),
+    λ n. subst₂ (TreeEdge g t) (sym (n .from)) (sym (n .to)) (edge-inside (n .stands) (n .u) (n .v) (Joined.own (n .edge))),
   )

@@ -2,6 +2,8 @@ pub mod Lists
 pub mod Paths
 pub mod Compose
 pub mod Addresses
+pub mod Subtrees
+pub mod Starts
 pub mod Values
 pub mod Exactly
 pub mod Runs

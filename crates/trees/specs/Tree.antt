@@ -27,8 +27,8 @@ mutual
 abbrev pub rootSymbol : Grammar → Tree → ℕ
 rootSymbol g (node p ks) = production g p .left
 
--- A finite complete tree: at each node a production that takes part and, below it, one complete tree for each right symbol, which has
--- that symbol at its root.
+-- A finite complete tree over productions of which Part holds: at each node such a production and, below it, one complete tree for each right
+-- symbol, which has that symbol at its root.
 abbrev mutual
   pub Complete : Grammar → (ℕ → Type 0) → Tree → Type 0
   Complete g Part (node p ks) = Part p × OneEach g Part ks (rights (production g p))
@@ -39,7 +39,7 @@ abbrev mutual
   OneEach g Part (cons t ks) [] = ⊥
   OneEach g Part (cons t ks) (s ∷ ss) = (rootSymbol g t ≡ s) × Complete g Part t × OneEach g Part ks ss
 
--- every production of the table takes part
+-- a production of the table
 abbrev pub InTable : Grammar → ℕ → Type 0
 InTable g p = p < length (g .productions)
 
