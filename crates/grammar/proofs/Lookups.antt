@@ -1,17 +1,18 @@
 -- What stands at a number of the grammar that some bytes say, and how many records it has. Assumes nothing.
 use mathlib.Core.Path.{_≡_, sym, ap, _∙_}
 use mathlib.Core.List.{List, [], _∷_}
-use Prim.Native.Nat.{ℕ, _+_, _*_, _≤_, _<_}
+use Prim.Native.Nat.{ℕ, _+_, _*_, _≤_, _<_, min}
 use native.Mathlib.Nat.{add-zero, add-assoc}
 use native.Mathlib.Decide.{decLt}
 use native.Mathlib.Omega.{arith}
-use lib.ListN.{length, getD, length-map, length-replicate}
+use lib.ListN.{length, getD, length-map, length-take, length-replicate}
+use lib.Seq.{getD-take}
 use Rattle.numbers.specs.Number.{le2}
 use Rattle.numbers.specs.Lists.{upFrom}
 use Rattle.numbers.proofs.Bytes.{byte-past, le2-past}
 use Rattle.numbers.proofs.Ranges.{length-upFrom, at-below, at-past}
 use Rattle.grammar.specs.declared.Production.{Production}
-use Rattle.grammar.specs.Grammar.{symbol, production, noSymbol, noProduction}
+use Rattle.grammar.specs.Grammar.{symbol, production, rights, noSymbol, noProduction}
 use Rattle.grammar.specs.Table.{N, P, E, atSymbols, atProductions, atEdges, symbolIn, productionIn, edgeIn, grammarOf}
 use Rattle.grammar.specs.Rules.{edge, noEdge}
 
@@ -58,6 +59,21 @@ module _ (bs : List ℕ) where
         byte-past bs (i + 4) (omega arith),
         byte-past bs (i + 4 + 1) (omega arith),
       )
+
+  -- a production record: seven slots, of which as many as count are the right symbols
+  pub slots-many : (i : ℕ) → length (productionIn bs i .slots) ≡ 7
+  unfolding productionIn
+  slots-many i = length-map (upFrom 0 7) _ ∙ length-upFrom 0 7
+
+  pub rights-many : (i : ℕ) → length (rights (productionIn bs i)) ≡ min (le2 bs (i + 2)) 7
+  unfolding productionIn
+  rights-many i = length-take (le2 bs (i + 2)) _ ∙ ap (min (le2 bs (i + 2))) (slots-many i)
+
+  pub right-at : (i k : ℕ) → k < length (rights (productionIn bs i)) → getD (rights (productionIn bs i)) k 0 ≡ le2 bs (i + 4 + 2 * k)
+  unfolding productionIn
+  right-at i k h =
+      getD-take (le2 bs (i + 2)) _ k 0 (omega (arith, rights-many i))
+      ∙ at-below (λ k. le2 bs (i + 4 + 2 * k)) 0 7 k (omega (arith, rights-many i))
 
   -- the seven slots, one by one
   pub slots-are :

@@ -3,28 +3,22 @@ use mathlib.Core.Path.{_≡_, sym, ap, _∙_}
 use mathlib.Core.List.{List, List·Memᴰ, Memᴰ·of-map}
 use Prim.Native.Nat.{ℕ, _+_, _*_}
 use native.Mathlib.Omega.{arith}
-use lib.ListN.{length, length-map}
-use Rattle.numbers.specs.Number.{le2}
+use lib.ListN.{length}
 use Rattle.numbers.specs.Lists.{upFrom}
-use Rattle.numbers.proofs.Ranges.{length-upFrom}
 use Rattle.grammar.specs.declared.Production.{Production}
-use Rattle.grammar.specs.Grammar.{production}
 use Rattle.grammar.specs.Table.{P, widthOf, atProductions, productionIn, grammarOf}
 use Rattle.grammar.specs.declared.Checked.the-variants.{Good}
 use Rattle.grammar.specs.Refusal.{refusal}
+use Rattle.grammar.proofs.Lookups.{slots-many}
 use Rattle.grammar.proofs.Valid.{valid}
 use Rattle.trees.specs.Tree.{WellFormed, AtMost}
 
 -- a production of a table has seven slots
-seven-slots : (bs : List ℕ) (i : ℕ) → length (productionIn bs i .slots) ≡ 7
-unfolding productionIn
-seven-slots bs i = length-map (upFrom 0 7) (λ k. le2 bs (i + 4 + 2 * k)) ∙ length-upFrom 0 7
-
 slots-there : (bs : List ℕ) (p : Production) → List·Memᴰ p (grammarOf bs .productions) → length (p .slots) ≡ 7
 unfolding grammarOf
 slots-there bs p m =
     let r = Memᴰ·of-map (λ i. productionIn bs (atProductions bs + 18 * i)) (upFrom 0 (P bs)) m in
-    ap (λ (q : Production). length (q .slots)) (sym (r .2)) ∙ seven-slots bs (atProductions bs + 18 * r .0)
+    ap (λ (q : Production). length (q .slots)) (sym (r .2)) ∙ slots-many bs (atProductions bs + 18 * r .0)
 
 pub obeys : (bs : List ℕ) → refusal bs ≡ Good → WellFormed (grammarOf bs) × AtMost (widthOf bs) (grammarOf bs)
 obeys bs e =
