@@ -9,9 +9,9 @@ use Rattle.numbers.proofs.Decides.{Decides, both-decides, every-decides}
 use Rattle.grammar.specs.declared.Production.{Production}
 use Rattle.grammar.specs.Grammar.{Grammar, rights}
 use Rattle.parts.specs.Sets.{Symbols, none, has}
-use Rattle.parts.specs.Rule.{grown, treed, begun, spread, reached}
+use Rattle.parts.specs.Rule.{walk, grown, treed, begun, spread, reached}
 use Rattle.parts.proofs.Sets.{In, Within, IsSet, none-set, in-none, if-set, if-here, if-only}
-use Rattle.parts.proofs.Walks.{out-set, out-more, out-closed, out-holds}
+use Rattle.parts.proofs.Walks.{walk-set, walk-more, walk-holds, still-closed, out-set, out-more, out-closed, out-holds, out-only}
 
 -- all of ss are in the set
 abbrev pub AllIn : Symbols → List ℕ → Type 0
@@ -100,11 +100,14 @@ module _ (g : Grammar) where
     unfolding reached spread
     reached-set = out-set (spreads T) rights (spreads-more T) ps (begun T (g .start)) begun-set
 
+    pub begun-reached : Within (begun T (g .start)) (reached g T)
+    unfolding reached spread
+    begun-reached = out-more (spreads T) rights (spreads-more T) ps (begun T (g .start)) begun-set
+
     pub start-reached : In T (g .start) → g .start < 256 → In (reached g T) (g .start)
-    unfolding reached spread begun
+    unfolding begun
     start-reached h l =
-        out-more (spreads T) rights (spreads-more T) ps (begun T (g .start)) begun-set (g .start)
-        (if-here (has T (g .start)) none (g .start ∷ []) none-set h (g .start) l (List·Memᴰ·head refl))
+        begun-reached (g .start) (if-here (has T (g .start)) none (g .start ∷ []) none-set h (g .start) l (List·Memᴰ·head refl))
 
     pub reached-closed :
         (p : Production) → List·Memᴰ p ps → In (reached g T) (p .left) → AllIn T (rights p)
@@ -116,3 +119,52 @@ module _ (g : Grammar) where
     -- they have a finite tree
     pub reached-treed : Within (reached g T) T
     reached-treed = reached-holds (In T) (λ h. h) (λ p m _ h. h)
+
+-- ---- walks in any order lead there too
+module _
+    (g : Grammar) (qs : List Production)
+    (from : (p : Production) → List·Memᴰ p qs → List·Memᴰ p (g .productions))
+    (to : (p : Production) → List·Memᴰ p (g .productions) → List·Memᴰ p qs) where
+  pub grown-set : (A : Symbols) → IsSet A → IsSet (walk grown qs A)
+  unfolding grown
+  grown-set = walk-set grows onlyLeft grows-more qs
+
+  pub grown-within : (A : Symbols) → IsSet A → Within A (treed g) → Within (walk grown qs A) (treed g)
+  unfolding grown
+  grown-within A i w =
+      walk-holds grows onlyLeft grows-more (In (treed g)) qs A i
+      (λ B p m h e t k l.
+      let q = List·Memᴰ·eq-of-singleton k in
+      subst (In (treed g)) (sym q)
+      (treed-closed g p (from p m) (λ s o. h s (all-decides B (rights p) .so e s o)) (subst (λ t. t < 256) q l)))
+      w
+
+  -- where one adds nothing, all is there
+  pub grown-done : (A : Symbols) → IsSet A → Within A (treed g) → walk grown qs A ≡ A → A ≡ treed g
+  unfolding treed grown
+  grown-done A i w e =
+      out-only grows onlyLeft grows-more (g .productions) none none-set A i (λ s h. absurd (in-none s h)) w
+      (λ p m. still-closed grows onlyLeft grows-more qs A i e p (to p m))
+
+  module _ (T : Symbols) where
+    pub spread-set : (A : Symbols) → IsSet A → IsSet (walk (spread T) qs A)
+    unfolding spread
+    spread-set = walk-set (spreads T) rights (spreads-more T) qs
+
+    pub spread-more : (A : Symbols) → IsSet A → Within A (walk (spread T) qs A)
+    unfolding spread
+    spread-more = walk-more (spreads T) rights (spreads-more T) qs
+
+    pub spread-within : (A : Symbols) → IsSet A → Within A (reached g T) → Within (walk (spread T) qs A) (reached g T)
+    unfolding spread
+    spread-within A i w =
+        walk-holds (spreads T) rights (spreads-more T) (In (reached g T)) qs A i
+        (λ B p m h e t k l. let b = both-in T B p .so e in reached-closed g T p (from p m) (h (p .left) (b .0)) (b .1) t k l)
+        w
+
+    pub spread-done :
+        (A : Symbols) → IsSet A → Within (begun T (g .start)) A → Within A (reached g T) → walk (spread T) qs A ≡ A → A ≡ reached g T
+    unfolding reached spread
+    spread-done A i u w e =
+        out-only (spreads T) rights (spreads-more T) (g .productions) (begun T (g .start)) (begun-set g T) A i u w
+        (λ p m. still-closed (spreads T) rights (spreads-more T) qs A i e p (to p m))

@@ -47,23 +47,23 @@ bit-at-lt : (A : Symbols) (s : ℕ) → bitAt A s < 2
 unfolding bitAt
 bit-at-lt A s = bit-lt (s % 64) (getD A (s / 64) 0)
 
-bit-past : (A : Symbols) (s : ℕ) → IsSet A → 256 ≤ s → bitAt A s ≡ 0
+bit-past : (A : Symbols) (s : ℕ) → length A ≡ 4 → 256 ≤ s → bitAt A s ≡ 0
 unfolding bitAt
-bit-past A s i l = ap (bit (s % 64)) (List·getD-eq-default A 0 (omega (arith, i .four))) ∙ bit-zero (s % 64)
+bit-past A s four l = ap (bit (s % 64)) (List·getD-eq-default A 0 (omega arith)) ∙ bit-zero (s % 64)
+
+pub not-past : (A : Symbols) (s : ℕ) → length A ≡ 4 → 256 ≤ s → has A s ≡ false
+not-past A s four l = go (has A s) refl
+  where
+    go : (b : Bool) → has A s ≡ b → b ≡ false
+    go true e = absurd (omega (arith, bit-past A s four l, in-bit A s e))
+    go false e = refl
 
 pub in-low : (A : Symbols) (s : ℕ) → IsSet A → In A s → s < 256
 in-low A s i h = go (decLe 256 s)
   where
     go : Dec (256 ≤ s) → s < 256
-    go (yes l) = absurd (omega (arith, bit-past A s i l, in-bit A s h))
+    go (yes l) = absurd (omega (arith, bit-past A s (i .four) l, in-bit A s h))
     go (no l) = omega arith
-
-pub not-past : (A : Symbols) (s : ℕ) → IsSet A → 256 ≤ s → has A s ≡ false
-not-past A s i l = go (has A s) refl
-  where
-    go : (b : Bool) → has A s ≡ b → b ≡ false
-    go true e = absurd (omega (arith, in-low A s i e))
-    go false e = refl
 
 -- ---- no symbol
 

@@ -2,14 +2,15 @@
 -- Assumes nothing.
 use mathlib.Core.List.{List}
 use mathlib.Core.Path.{_≡_, refl, _∙_}
-use Prim.Native.Nat.{ℕ}
+use Prim.Native.Nat.{ℕ, _≤_, _<_}
 use native.Mathlib.Omega.{arith}
-use borrow.Author.Tests.{le-leb}
+use borrow.Author.Tests.{le-leb, lt-leb}
 use lib.ListN.{length, length-map}
 use Rattle.numbers.specs.Lists.{upFrom}
 use Rattle.numbers.proofs.Ranges.{length-upFrom}
 use Rattle.grammar.specs.Table.{N, startOf, atEdges, grammarOf}
-use Rattle.parts.specs.Rule.{partsIn}
+use Rattle.parts.specs.declared.Parts.{Parts}
+use Rattle.parts.specs.Rule.{treed, reached, partsOf, noParts, partsIn}
 use Rattle.parts.specs.Exactly.{ValidNumbered, ValidExactly, TakesPartExactly, ValidWhole}
 use Rattle.parts.proofs.Exactly.{exactly-numbered}
 
@@ -37,6 +38,18 @@ valid-exactly bs v = exactly-numbered (grammarOf bs) (valid-numbered bs v)
 -- the rule finds the productions that take part, and no others
 pub takes-part : TakesPartExactly
 takes-part bs v = valid-exactly bs v .takes-part
+
+-- ---- where the productions are whole, and where not
+
+pub parts-short : (bs : List ℕ) → length bs < atEdges bs → partsIn bs ≡ noParts
+unfolding partsIn
+parts-short bs l = rw (lt-leb (atEdges bs) (length bs) l)
+
+pub parts-whole :
+    (bs T R : List ℕ) → atEdges bs ≤ length bs → T ≡ treed (grammarOf bs) → R ≡ reached (grammarOf bs) (treed (grammarOf bs))
+    → _≡_ {A = Parts} (record { treed = T; reached = R }) (partsIn bs)
+unfolding partsIn partsOf
+parts-whole bs T R l t r = rw (le-leb (atEdges bs) (length bs) l) (λ i. record { treed = t i; reached = r i })
 
 pub valid-whole : ValidWhole
 unfolding partsIn

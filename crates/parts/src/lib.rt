@@ -1,9 +1,12 @@
-// The type that the rule and the code share.
+// What the rule and the code share.
 
-// Two sets of symbols, with a bit for each of the 256 that a table has at most.
+// A set of symbols has a bit for each of the 256 that there may be, in so many numbers.
+pub const WORDS: usize = 4;
+
+// Two sets of symbols.
 pub struct Parts {
-    // The symbols that have a finite tree.
-    pub treed: [u64; 4],
-    // The symbols that are reached from the start symbol.
-    pub reached: [u64; 4],
+    // Those that have a finite tree.
+    pub treed: [u64; WORDS],
+    // Those that are reached from the start symbol.
+    pub reached: [u64; WORDS],
 }
