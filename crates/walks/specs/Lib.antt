@@ -1,0 +1,2 @@
+-- What the promises of the code's own parts say.
+pub mod Walk
