@@ -12,7 +12,7 @@ use Rattle.rules.specs.declared.Answer.the-variants.{Noncircular, Circular, Ref
 use Rattle.rules.specs.declared.Entry.{Entry}
 use Rattle.rules.specs.Passes.{System, State, Ran, going, stopped, noRoot, pass, Outcome, outcome, after, empty, passesFrom, passes}
 use Rattle.orders.specs.Stored.{In, FitsIn, Root, AllMade}
-use Rattle.orders.specs.Answers.{Says, Sound, StepsCompared, RoomCompared, OneStored, Verdict, reached, Passed}
+use Rattle.orders.specs.Answers.{Says, Sound, StepsCompared, RoomCompared, OneStored, Verdict, comesTo, Passed}
 use Rattle.orders.specs.Claims.{OutcomeSound, TurnsStay, FuelSuffices, StepsDecide, RoomDecides, OneMore, VerdictStands, MoreRoom}
 use Rattle.orders.specs.Modes.{Candidate, AllSettled}
 use Rattle.orders.specs.Plans.{Plan, end, End, run, outcomeOf, turnsPlan, afterPass, passesPlan}
@@ -33,7 +33,7 @@ turns-stay W ps L R s h k =
     (ended (plain W) L R (turnsPlan (offers W) 0 ps (λ u. end 0) (s .entries)) (s .entries) (s .made) h k))
   where
     go : (r : Ran) → Ended (plain W) L R (s .entries) (s .made) (thenEnds 0 r (runFrom W L R (λ u. end 0)))
-        → Passed L R s (reached r)
+        → Passed L R s (comesTo r)
     go (stopped a root t) z = record { stays = z .stays; counts = z .counts; closures = z .closures; entries = z .entries }
     go (going t) z =
         let w = subst (Ended (plain W) L R (s .entries) (s .made)) (run-over (plain W) L R 0 (t .entries) (t .made)) z in
@@ -52,7 +52,7 @@ same-fuel W ps L R zero g n s h k a b = absurd (omega arith)
 same-fuel W ps L R (suc f) zero n s h k a b = absurd (omega arith)
 same-fuel W ps L R (suc f) (suc g) n s h k a b = go (pass W L R ps s) (turns-stay W ps L R s h k) (same-fuel W ps L R f g (suc n))
   where
-    go : (r : Ran) → Passed L R s (reached r)
+    go : (r : Ran) → Passed L R s (comesTo r)
         → ((t : State) → t .made ≤ L → length (t .entries) ≤ R → R - length (t .entries) < f → R - length (t .entries) < g
         → passesFrom W L R f ps (suc n) t ≡ passesFrom W L R g ps (suc n) t)
         → after s (suc n) r (passesFrom W L R f ps (suc n)) ≡ after s (suc n) r (passesFrom W L R g ps (suc n))
@@ -84,7 +84,7 @@ run-passes W ps L R (suc fuel) n s h k l =
     afterwards : List Entry → Plan (List Entry)
     afterwards = afterPass (offers W) length (suc n) (length (s .entries)) (planFrom W fuel ps (suc n))
 
-    go : (r : Ran) → Passed L R s (reached r)
+    go : (r : Ran) → Passed L R s (comesTo r)
         → ((t : State) → t .made ≤ L → length (t .entries) ≤ R → R - length (t .entries) < fuel
         → passesFrom W L R fuel ps (suc n) t ≡ outcomeOf (plain W) (runFrom W L R (planFrom W fuel ps (suc n)) t))
         → after s (suc n) r (passesFrom W L R fuel ps (suc n)) ≡ outcomeOf (plain W) (thenEnds (suc n) r (runFrom W L R afterwards))

@@ -65,9 +65,9 @@ pub record OneStored (o o′ : Outcome) : Type 0 where
   pub closures : o′ .report .closures ≡ o .report .closures
 
 -- ---- turns, from any state
-abbrev pub reached : Ran → State
-reached (going s) = s
-reached (stopped a root s) = s
+abbrev pub comesTo : Ran → State
+comesTo (going s) = s
+comesTo (stopped a root s) = s
 
 -- from s to t
 pub record Passed (L R : ℕ) (s t : State) : Type 0 where

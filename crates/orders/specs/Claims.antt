@@ -6,7 +6,7 @@ use lib.ListN.{length}
 use Rattle.rules.specs.declared.Answer.the-variants.{OutOfRoom}
 use Rattle.rules.specs.Passes.{System, State, pass, empty, passesFrom, passes}
 use Rattle.orders.specs.Stored.{In}
-use Rattle.orders.specs.Answers.{Sound, Verdict, StepsCompared, RoomCompared, OneStored, reached, Passed}
+use Rattle.orders.specs.Answers.{Sound, Verdict, StepsCompared, RoomCompared, OneStored, comesTo, Passed}
 
 -- every entry is made by its production over earlier ones, no two are alike, limit and room are kept, and the answer says what it should
 abbrev pub OutcomeSound : Type 0
@@ -16,7 +16,7 @@ OutcomeSound = (W : System) (ps : List ℕ) (L R : ℕ) → Sound W (In ps) L R 
 abbrev pub TurnsStay : Type 0
 TurnsStay =
     (W : System) (ps : List ℕ) (L R : ℕ) (s : State) → s .made ≤ L → length (s .entries) ≤ R
-    → Passed L R s (reached (pass W L R ps s))
+    → Passed L R s (comesTo (pass W L R ps s))
 
 -- the passes never end because their fuel is used up: more of it changes nothing
 abbrev pub FuelSuffices : Type 0

@@ -16,7 +16,7 @@ use Rattle.numbers.specs.Number.{bit}
 use Rattle.numbers.proofs.Bits.{bit-or, bit-power, one-of, bit-zero, bit-lt, same-bit, same-bits}
 use Rattle.numbers.proofs.Decides.{Decides, both-decides, eq-decides, says}
 use Rattle.numbers.proofs.Members.{at-cons}
-use Rattle.parts.specs.Sets.{Symbols, none, has, add, addAll, addIf, same}
+use Rattle.parts.specs.Sets.{Symbols, none, has, add, addAll, addIf, sameSets}
 
 abbrev pub In : Symbols → ℕ → Type 0
 In A s = has A s ≡ true
@@ -233,8 +233,8 @@ module _ (b : Bool) (A : Symbols) (ss : List ℕ) (i : IsSet A) where
       if-more
 
 -- ---- the test of two sets
-pub same-decides : (A B : Symbols) → Decides (same A B) (A ≡ B)
-unfolding same
+pub same-decides : (A B : Symbols) → Decides (sameSets A B) (A ≡ B)
+unfolding sameSets
 same-decides [] [] = record { so = λ _. refl; passes = λ _. refl }
 same-decides [] (y ∷ ys) = record { so = λ e. absurd (true≢false (sym e)); passes = λ e. absurd (other (ap length e)) }
   where

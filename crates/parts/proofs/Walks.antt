@@ -8,7 +8,7 @@ use Prim.Native.Nat.{ℕ, zero, suc, _+_, _≤_, _<_}
 use native.Mathlib.Omega.{arith}
 use Rattle.numbers.proofs.Members.{at-cons}
 use Rattle.grammar.specs.declared.Production.{Production}
-use Rattle.parts.specs.Sets.{Symbols, addIf, same}
+use Rattle.parts.specs.Sets.{Symbols, addIf, sameSets}
 use Rattle.parts.specs.Rule.{walk, again, grownOut}
 use Rattle.parts.proofs.Sets.{In, Within, IsSet, in-low, if-set, if-more, if-here, if-only, same-decides, same-sets}
 use Rattle.parts.proofs.Sizes.{size, size-full, same-or-more}
@@ -76,7 +76,7 @@ module _
     again-holds ps zero b A i keeps h = h
     again-holds ps (suc k) true A i keeps h = h
     again-holds ps (suc k) false A i keeps h =
-        again-holds ps k (same (walk F ps A) A) (walk F ps A) (walk-set ps A i) keeps (walk-holds ps A i keeps h)
+        again-holds ps k (sameSets (walk F ps A) A) (walk F ps A) (walk-set ps A i) keeps (walk-holds ps A i keeps h)
 
   module _ (ps : List Production) where
     -- nothing is left to add
@@ -96,14 +96,14 @@ module _
     unfolding again
     again-set zero b A i = i
     again-set (suc k) true A i = i
-    again-set (suc k) false A i = again-set k (same (walk F ps A) A) (walk F ps A) (walk-set ps A i)
+    again-set (suc k) false A i = again-set k (sameSets (walk F ps A) A) (walk F ps A) (walk-set ps A i)
 
     again-more : (k : ℕ) (b : Bool) (A : Symbols) → IsSet A → Within A (again k b (walk F ps) A)
     unfolding again
     again-more zero b A i s h = h
     again-more (suc k) true A i s h = h
     again-more (suc k) false A i s h =
-        again-more k (same (walk F ps A) A) (walk F ps A) (walk-set ps A i) s (walk-more ps A i s h)
+        again-more k (sameSets (walk F ps A) A) (walk F ps A) (walk-set ps A i) s (walk-more ps A i s h)
 
     -- it ends because nothing is left to add: there are as many walks to make as symbols that are not there
     again-closed :
@@ -114,7 +114,7 @@ module _
     again-closed zero false A i c l = λ p m e t o low. size-full A (omega (arith, l refl)) t low
     again-closed (suc k) true A i c l = c refl
     again-closed (suc k) false A i c l =
-        again-closed k (same (walk F ps A) A) (walk F ps A) (walk-set ps A i)
+        again-closed k (sameSets (walk F ps A) A) (walk F ps A) (walk-set ps A i)
         (λ e. still-closed (walk F ps A) (walk-set ps A i) (ap (walk F ps) (same-decides (walk F ps A) A .so e)))
         (λ e.
         ⊎-elim

@@ -10,7 +10,7 @@ use Rattle.grammar.specs.declared.Production.{Production}
 use Rattle.grammar.specs.Grammar.{Grammar, production, rights}
 use Rattle.grammar.specs.Table.{atEdges, grammarOf}
 use Rattle.parts.specs.declared.Parts.{Parts}
-use Rattle.parts.specs.Sets.{Symbols, none, has, addIf, same}
+use Rattle.parts.specs.Sets.{Symbols, none, has, addIf, sameSets}
 
 -- ---- walks over the productions
 
@@ -23,7 +23,7 @@ walk f (p ∷ ps) A = walk f ps (f A p)
 unfoldable pub again : ℕ → Bool → (Symbols → Symbols) → Symbols → Symbols
 again zero nothing f A = A
 again (suc k) true f A = A
-again (suc k) false f A = again k (same (f A) A) f (f A)
+again (suc k) false f A = again k (sameSets (f A) A) f (f A)
 
 -- each walk but the last adds one of 256 symbols, so 256 are enough (`out-closed`)
 unfoldable pub grownOut : (Symbols → Symbols) → Symbols → Symbols

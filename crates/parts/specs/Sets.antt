@@ -31,8 +31,8 @@ unfoldable pub addIf : Bool → Symbols → List ℕ → Symbols
 addIf true A ss = addAll A ss
 addIf false A ss = A
 
-unfoldable pub same : Symbols → Symbols → Bool
-same [] [] = true
-same [] (y ∷ ys) = false
-same (x ∷ xs) [] = false
-same (x ∷ xs) (y ∷ ys) = both (eqb x y) (same xs ys)
+unfoldable pub sameSets : Symbols → Symbols → Bool
+sameSets [] [] = true
+sameSets [] (y ∷ ys) = false
+sameSets (x ∷ xs) [] = false
+sameSets (x ∷ xs) (y ∷ ys) = both (eqb x y) (sameSets xs ys)
