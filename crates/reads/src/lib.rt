@@ -1,33 +1,35 @@
 // The header and the records of a table, each held to its rule.
 use numbers::four_at;
+use numbers::two_at;
 ghost use mathlib.Core.Path.{_≡_};
 ghost use Prim.Native.Nat.{_≤_};
-ghost use lib.Dec.{ltb};
-ghost use lib.ListN.{length, take, drop};
+ghost use lib.Dec.{leb, ltb};
+ghost use lib.ListN.{take, drop};
 ghost use Rattle.numbers.specs.Number.{bit};
-ghost use Rattle.numbers.specs.Lists.{every, below};
-ghost use Rattle.grammar.specs.Grammar.{symbol, production};
+ghost use Rattle.numbers.specs.Lists.{both, every, below};
+ghost use Rattle.grammar.specs.Grammar.{symbol, production, symbolAt};
 ghost use Rattle.grammar.specs.Table.{N, attributes, widthOf, grammarOf};
-ghost use Rattle.grammar.specs.Rules.{symbolOf, key};
+ghost use Rattle.grammar.specs.Rules.{producer, symbolOf, key};
 ghost use Rattle.grammar.specs.Refusal.{
   countsOk,
   offsetsOk,
   symbolOk,
   productionOk,
-  occurrencesOk,
-  attributesOk,
-  targetOk,
+  allowed,
   inOrder,
 };
-ghost use Rattle.grammar.specs.Reading.{edgeAt};
+ghost use Rattle.grammar.specs.Reading.{headerOf, offsetsOf, edgeAt};
 ghost use Rattle.grammar.specs.Steps.{symbolRead, productionRead, edgeRead};
 use grammar::ATTRIBUTES;
 use grammar::Edge;
 use grammar::Head;
+use grammar::Header;
 use grammar::MOST_EDGES;
 use grammar::MOST_PRODUCTIONS;
 use grammar::MOST_SYMBOLS;
 use grammar::Node;
+use grammar::Offsets;
+use grammar::PRODUCTION_BYTES;
 use grammar::Production;
 use grammar::Read;
 use grammar::SLOTS;
@@ -142,42 +144,67 @@ pub fn read_production(table: &[u8], p: usize) -> Read
     }
 }
 
+// Of what an edge's rules ask, the header and the offsets are read once, and of the production only the fields that are asked for.
+
+// How many right symbols the production of a number has, and 0 where there is none.
+fn rights_of(table: &[u8], h: Header, o: Offsets, p: usize) -> u16
+    requires { ⌜ (h ≡ headerOf (now table)) × (o ≡ offsetsOf (now table)) ⌝ }
+    ensures { λ r. ⌜ r ≡ production (grammarOf (now (table .entry))) p .n ⌝ }
+{
+    if h.productions as usize <= p {
+        return 0;
+    }
+    two_at(table, o.productions as usize + PRODUCTION_BYTES * p + 2)
+}
+
+// The number of the symbol at an occurrence of the production of a number, which has n right symbols; 0 where there is none.
+fn symbol_at(table: &[u8], h: Header, o: Offsets, p: usize, n: u16, occurrence: u8) -> u16
+    requires { ⌜ (h ≡ headerOf (now table)) × (o ≡ offsetsOf (now table)) × (n ≡ production (grammarOf (now table)) p .n) ⌝ }
+    ensures { λ r. ⌜ r ≡ symbolAt (production (grammarOf (now (table .entry))) p) occurrence ⌝ }
+{
+    if h.productions as usize <= p {
+        return 0;
+    }
+    let at = o.productions as usize + PRODUCTION_BYTES * p;
+    if occurrence == 0 {
+        return two_at(table, at);
+    }
+    let k = (occurrence - 1) as usize;
+    if n as usize <= k {
+        return 0;
+    }
+    if SLOTS <= k {
+        return 0;
+    }
+    two_at(table, at + 4 + 2 * k)
+}
+
 // The symbol at an occurrence of the edge's production.
-fn symbol_of(table: &[u8], e: Edge, x: Node) -> Symbol
+fn symbol_of(table: &[u8], h: Header, o: Offsets, n: u16, e: Edge, x: Node) -> Symbol
+    requires { ⌜ (h ≡ headerOf (now table)) × (o ≡ offsetsOf (now table)) × (n ≡ producer (grammarOf (now table)) e .n) ⌝ }
     ensures { λ r. ⌜ r ≡ symbolOf (grammarOf (now (table .entry))) e x ⌝ }
 {
-    let s = tables::symbol_at(table, e.production as usize, x.occurrence);
+    let s = symbol_at(table, h, o, e.production as usize, n, x.occurrence);
     tables::symbol_of(table, s as usize)
 }
 
-// Rule 10: the production is there.
-fn production_there(table: &[u8], e: Edge) -> bool
-    ensures { λ r. ⌜ r ≡ ltb (e .production) (length (grammarOf (now (table .entry)) .productions)) ⌝ }
+// Rule 11: both occurrences are in range, where the production has n right symbols.
+fn occurrences_ok(n: u16, e: Edge) -> bool
+    ensures { λ r. ⌜ r ≡ both (leb (e .source .occurrence) n) (leb (e .target .occurrence) n) ⌝ }
 {
-    let h = tables::header_of(table);
-    e.production < h.productions
-}
-
-// Rule 11: both occurrences are in range.
-fn occurrences_ok(table: &[u8], e: Edge) -> bool
-    ensures { λ r. ⌜ r ≡ occurrencesOk (grammarOf (now (table .entry))) e ⌝ }
-{
-    let n = tables::rights_of(table, e.production as usize);
     if n < e.source.occurrence as u16 {
         return false;
     }
     e.target.occurrence as u16 <= n
 }
 
-// Rule 12: both attributes are in range.
-fn attributes_ok(table: &[u8], e: Edge) -> bool
-    ensures { λ r. ⌜ r ≡ attributesOk (grammarOf (now (table .entry))) e ⌝ }
+// Rule 12: both attributes are in range, of the symbols at the source and at the target.
+fn attributes_ok(e: Edge, source: Symbol, target: Symbol) -> bool
+    ensures { λ r. ⌜ r ≡ both (ltb (e .source .attribute) (source .count)) (ltb (e .target .attribute) (target .count)) ⌝ }
 {
-    let source = symbol_of(table, e, e.source);
     if source.count <= e.source.attribute {
         return false;
     }
-    let target = symbol_of(table, e, e.target);
     e.target.attribute < target.count
 }
 
@@ -191,11 +218,10 @@ fn inherited(s: Symbol, attribute: u8) -> u16
     (s.mask >> attribute) % 2
 }
 
-// Rule 13: the target is allowed.
-fn target_ok(table: &[u8], e: Edge) -> bool
-    ensures { λ r. ⌜ r ≡ targetOk (grammarOf (now (table .entry))) e ⌝ }
+// Rule 13: the target is allowed, of the symbol there.
+fn target_ok(e: Edge, target: Symbol) -> bool
+    ensures { λ r. ⌜ r ≡ allowed (e .target .occurrence) (bit (e .target .attribute) (target .mask)) ⌝ }
 {
-    let target = symbol_of(table, e, e.target);
     let i = inherited(target, e.target.attribute);
     if e.target.occurrence == 0 {
         i == 0
@@ -237,16 +263,21 @@ pub fn read_edge(table: &[u8], i: usize, before: Edge) -> Read
     ensures { λ r. ⌜ r ≡ edgeRead (grammarOf (now (table .entry))) i before (edgeAt (now (table .entry)) i) ⌝ }
 {
     let e = tables::edge_at(table, i);
-    if !production_there(table, e) {
+    let h = tables::header_of(table);
+    if h.productions <= e.production {
         return Read::Refused(10);
     }
-    if !occurrences_ok(table, e) {
+    let o = tables::offsets_of(table);
+    let n = rights_of(table, h, o, e.production as usize);
+    if !occurrences_ok(n, e) {
         return Read::Refused(11);
     }
-    if !attributes_ok(table, e) {
+    let source = symbol_of(table, h, o, n, e, e.source);
+    let target = symbol_of(table, h, o, n, e, e.target);
+    if !attributes_ok(e, source, target) {
         return Read::Refused(12);
     }
-    if !target_ok(table, e) {
+    if !target_ok(e, target) {
         return Read::Refused(13);
     }
     if !in_order(i, before, e) {

@@ -10,10 +10,6 @@ use Rattle.tables.proofs.symbol_of.Kinds as symbol-of-kinds
 use Rattle.tables.proofs.symbol_of.Reads as symbol-of-reads
 use Rattle.tables.proofs.production_of.Kinds as production-of-kinds
 use Rattle.tables.proofs.production_of.Reads as production-of-reads
-use Rattle.tables.proofs.rights_of.Kinds as rights-of-kinds
-use Rattle.tables.proofs.rights_of.Reads as rights-of-reads
-use Rattle.tables.proofs.symbol_at.Kinds as symbol-at-kinds
-use Rattle.tables.proofs.symbol_at.Reads as symbol-at-reads
 use Rattle.tables.proofs.edge_at.Kinds as edge-at-kinds
 use Rattle.tables.proofs.edge_at.Reads as edge-at-reads
 use Rattle.tables.proofs.run_of.Kinds as run-of-kinds
@@ -30,12 +26,6 @@ one-reading-symbol-of κs a x y s t p q = p ∙ sym q
 
 pub one-reading-production-of : OneResult 1 production-of-kinds.ps production-of-kinds.r production-of-reads.Post
 one-reading-production-of κs a x y s t p q = p ∙ sym q
-
-pub one-reading-rights-of : OneResult 1 rights-of-kinds.ps rights-of-kinds.r rights-of-reads.Post
-one-reading-rights-of κs a x y s t p q = p ∙ sym q
-
-pub one-reading-symbol-at : OneResult 1 symbol-at-kinds.ps symbol-at-kinds.r symbol-at-reads.Post
-one-reading-symbol-at κs a x y s t p q = p ∙ sym q
 
 pub one-reading-edge-at : OneResult 1 edge-at-kinds.ps edge-at-kinds.r edge-at-reads.Post
 one-reading-edge-at κs a x y s t p q = p ∙ sym q

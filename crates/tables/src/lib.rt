@@ -3,7 +3,7 @@ use numbers::byte_at;
 use numbers::two_at;
 ghost use mathlib.Core.Path.{_≡_};
 ghost use Prim.Native.Nat.{_+_, _*_, _^_, _≤_, _<_, min};
-ghost use Rattle.grammar.specs.Grammar.{symbol, production, symbolAt};
+ghost use Rattle.grammar.specs.Grammar.{symbol, production};
 ghost use Rattle.grammar.specs.Table.{productionIn, nodeIn, edgeIn, grammarOf};
 ghost use Rattle.grammar.specs.Rules.{noEdge};
 ghost use Rattle.grammar.specs.Search.{further, seek};
@@ -97,42 +97,6 @@ pub fn production_of(table: &[u8], p: usize) -> Production
     }
     let o = offsets_of(table);
     production_in(table, o.productions as usize + PRODUCTION_BYTES * p)
-}
-
-// How many right symbols the production of a number has, and 0 where there is none: read by itself.
-pub fn rights_of(table: &[u8], p: usize) -> u16
-    ensures { λ r. ⌜ r ≡ production (grammarOf (now (table .entry))) p .n ⌝ }
-{
-    let h = header_of(table);
-    if h.productions as usize <= p {
-        return 0;
-    }
-    let o = offsets_of(table);
-    two_at(table, o.productions as usize + PRODUCTION_BYTES * p + 2)
-}
-
-// The number of the symbol at an occurrence of the production of a number, and 0 where there is none: read by itself.
-pub fn symbol_at(table: &[u8], p: usize, occurrence: u8) -> u16
-    ensures { λ r. ⌜ r ≡ symbolAt (production (grammarOf (now (table .entry))) p) occurrence ⌝ }
-{
-    let n = rights_of(table, p);
-    let h = header_of(table);
-    if h.productions as usize <= p {
-        return 0;
-    }
-    let o = offsets_of(table);
-    let at = o.productions as usize + PRODUCTION_BYTES * p;
-    if occurrence == 0 {
-        return two_at(table, at);
-    }
-    let k = (occurrence - 1) as usize;
-    if n as usize <= k {
-        return 0;
-    }
-    if SLOTS <= k {
-        return 0;
-    }
-    two_at(table, at + 4 + 2 * k)
 }
 
 fn node_in(table: &[u8], at: usize) -> Node

@@ -1,4 +1,4 @@
--- `tables::rights_of` meets its contract. Assumes nothing.
+-- `reads::rights_of` meets its contract. Assumes nothing.
 use mathlib.Core.Path.{sym, ap, _∙_}
 use Prim.Native.Nat.{_+_, _*_}
 use native.Mathlib.Omega.{arith}
@@ -6,23 +6,17 @@ use Rattle.numbers.specs.Number.{le2}
 use Rattle.grammar.specs.declared.Production.{Production}
 use Rattle.grammar.proofs.Lookups.{production-none, count-read}
 use borrow.Author.Needs.{needs}
-use Rattle.tables.proofs.rights_of.Statement.{statement}
-use Rattle.tables.proofs.rights_of.Tie as tie
-
-header-of-requires : tie.Need-header-of-requires
-header-of-requires c κs = search needs
+use Rattle.reads.proofs.rights_of.Statement.{statement}
+use Rattle.reads.proofs.rights_of.Tie as tie
 
 cast-if1 : tie.Need-cast-if1
 cast-if1 c = search needs
 
 returns : tie.Need-returns
 returns c =
-    let a = c .before .before .before .before .args in
-    let many = ap (λ h. h .productions) (c .before .before .header-of .ensures) in
-    ap (λ (q : Production). q .n) (sym (production-none (a .table .now) (a .p) (omega arith)))
-
-offsets-of-requires : tie.Need-offsets-of-requires
-offsets-of-requires c κs = search needs
+    let s = c .before .before .before in
+    let many = ap (λ h. h .productions) (s .pre .0) in
+    ap (λ (q : Production). q .n) (sym (production-none (s .args .table .now) (s .args .p) (omega arith)))
 
 cast-two-at : tie.Need-cast-two-at
 cast-two-at c = search needs
@@ -41,20 +35,18 @@ two-at-requires c κs = search needs
 
 returns-2 : tie.Need-returns-2
 returns-2 c =
-    let a = c .before .before .before .before .before .before .before .args in
-    let many = ap (λ h. h .productions) (c .before .before .before .before .before .header-of .ensures) in
+    let s = c .before .before .before .before .before in
+    let many = ap (λ h. h .productions) (s .pre .0) in
     c .two-at .ensures
-    ∙ ap (λ o. le2 (a .table .now) (o .productions + 18 * a .p + 2)) (c .before .before .offsets-of .ensures)
-    ∙ count-read (a .table .now) (a .p) (omega arith)
+    ∙ ap (λ o. le2 (s .args .table .now) (o .productions + 18 * s .args .p + 2)) (s .pre .1)
+    ∙ count-read (s .args .table .now) (s .args .p) (omega arith)
 
 pub rights-of-spec : {M : Type 1} → statement M
 rights-of-spec =
     tie.close
     (tie.spec
-    header-of-requires
     cast-if1
     returns
-    offsets-of-requires
     cast-two-at
     mul-two-at
     add-two-at
