@@ -4,7 +4,7 @@ use Prim.Native.Nat.{ℕ}
 use lib.ListN.{replicate}
 use Rattle.grammar.specs.declared.Production.{Production}
 use Rattle.grammar.specs.Grammar.{Grammar}
-use Rattle.trees.specs.Small.{edge}
+use Rattle.trees.specs.Small.{smallEdge}
 
 -- s → nothing
 abbrev pub leafOf : ℕ → Production
@@ -21,7 +21,7 @@ spare =
       start = 0;
       symbols = record { count = 0; mask = 0 } ∷ record { count = 1; mask = 0 } ∷ [];
       productions = leafOf 0 ∷ leafOf 1 ∷ [];
-      edges = edge 1 0 0 0 0 ∷ [];
+      edges = smallEdge 1 0 0 0 0 ∷ [];
     }
 
 -- 0 → 1, with a circle in its own edges, where 1 has no finite tree: 1 → 1; and 0 → nothing
@@ -31,7 +31,7 @@ endless =
       start = 0;
       symbols = record { count = 0; mask = 0 } ∷ record { count = 1; mask = 1 } ∷ [];
       productions = oneBelow 0 1 ∷ oneBelow 1 1 ∷ leafOf 0 ∷ [];
-      edges = edge 0 1 0 1 0 ∷ [];
+      edges = smallEdge 0 1 0 1 0 ∷ [];
     }
 
 -- 0 → 1, 1 → 2, 2 → 3, 3 → nothing: with each walk one symbol more; and 2 → 0
