@@ -20,7 +20,7 @@ use Rattle.passes.proofs.Entries.{length-entries, entry-at, field-taken, kids-t
 use Rattle.passes.proofs.Testing.{tells-same}
 use Rattle.passes.proofs.Told.{entries-fit, entries-told}
 use Rattle.rows.proofs.Writing.{length-written, written-there, written-rest}
-use Rattle.agreement.specs.declared.Tried.{Tried}
+use Rattle.agreement.specs.declared.RowTried.{RowTried}
 use Rattle.agreement.specs.Agreement.{blankEntry, Alike, rowOf, Tries}
 use Rattle.agreement.proofs.Exactly.{never}
 use Rattle.agreement.proofs.Rowing.{length-row}
@@ -121,7 +121,7 @@ module _ (bs : List ℕ) (limit room : ℕ) (few : room ≤ 4096) (σ : Slices) 
 
 -- ---- what comes of the test over a row, against a report and slices
 
-module _ (bs : List ℕ) (limit room most : ℕ) (σ : Slices) (b : Entry) (r : Tried) (report : Report)
+module _ (bs : List ℕ) (limit room most : ℕ) (σ : Slices) (b : Entry) (r : RowTried) (report : Report)
     (clipped : most ≡ min 4096 room) (blank : b ≡ blankEntry) (tries : Tries (test bs limit most) b σ r) where
   few : most ≤ 4096
   few = omega (arith, clipped)

@@ -14,7 +14,7 @@ use Rattle.rules.specs.declared.Entry.{Entry}
 use Rattle.rules.specs.Passes.{Outcome, entry}
 use Rattle.passes.specs.Slices.{Slices, roomOf, entryAt}
 use Rattle.rows.specs.Rows.{firstOf}
-use Rattle.agreement.specs.declared.Tried.{Tried}
+use Rattle.agreement.specs.declared.RowTried.{RowTried}
 
 -- what stands in every record before the test
 abbrev pub blankEntry : Entry
@@ -65,6 +65,6 @@ unfoldable pub rowOf : Entry → List Entry
 rowOf e = replicate 4096 e
 
 -- the report is the outcome's, and the row in which e stood everywhere, with the outcome's entries in front, is found alike or not
-pub record Tries (o : Outcome) (e : Entry) (σ : Slices) (r : Tried) : Type 0 where
+pub record Tries (o : Outcome) (e : Entry) (σ : Slices) (r : RowTried) : Type 0 where
   pub report : r .report ≡ o .report
   pub same : (r .same ≡ true) ↔ Alike σ (o .report .entries) (written (o .entries) (rowOf e))

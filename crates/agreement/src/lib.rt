@@ -194,7 +194,7 @@ fn alike<'e, 'a>(
 }
 
 // What comes of the test over a row: its report, and whether the row is then as the slices are.
-struct Tried {
+struct RowTried {
     report: Report,
     same: bool,
 }
@@ -209,7 +209,7 @@ fn try_row<'t, 'a>(
     graphs: &'a [u64],
     productions: &'a [u16],
     kids: &'a [u16],
-) -> Tried
+) -> RowTried
     requires { ⌜ room ≤ 4096 ⌝ }
     ensures { λ r. ⌜ Tries (stated.test (now (table .entry)) limit room) e
         (atEntry symbols graphs productions kids) r ⌝ }
@@ -217,7 +217,7 @@ fn try_row<'t, 'a>(
     let mut row = [e; MOST_ENTRIES];
     let report = records::test(table, limit, &mut row[..room]);
     let same = alike(&row, report.entries, symbols, graphs, productions, kids);
-    Tried { report, same }
+    RowTried { report, same }
 }
 
 // Whether the test over a row of records, with room for so many and for 4,096 at most, gives this report and leaves the entries that stand

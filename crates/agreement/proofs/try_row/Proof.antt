@@ -62,10 +62,10 @@ use Rattle.records.proofs.test as test
 use Rattle.records.proofs.test.Symbol as test-def
 use Rattle.records.proofs.test.Symbol.{name as #records·test}
 use Rattle.records.proofs.test.Met as test-thm
-use Rattle.agreement.specs.declared.Tried.{Tried}
+use Rattle.agreement.specs.declared.RowTried.{RowTried}
 use Rattle.agreement.specs.Agreement.{Alike, rowOf}
-use Rattle.agreement.proofs.Tried as tried
-use Rattle.agreement.proofs.Tried.Laws as of-tried
+use Rattle.agreement.proofs.RowTried as tried
+use Rattle.agreement.proofs.RowTried.Laws as of-tried
 use Rattle.agreement.proofs.Rowing.{rowVal, made-row, typed-row, is-row, length-row}
 use Rattle.agreement.proofs.alike as alike
 use Rattle.agreement.proofs.alike.Symbol as alike-def
@@ -139,7 +139,7 @@ module _ {M : Type 1} (𝓤 : URA M) (H : Heap 𝓤) (A : Atoms 𝓤) (W : Given
   counted : Counted k out
   counted = counted-test (now t) limit k
 
-  abbrev both : Report → Bool → Tried
+  abbrev both : Report → Bool → RowTried
   both r c = record { report = r; same = c }
 
   abbrev report-val : Report → Val
