@@ -29,7 +29,7 @@ enum {
 
 /* Answers. */
 enum {
-    /* No finite complete tree, rooted at any symbol, has a circle. Of a check: the table is good. */
+    /* No finite complete tree rooted at the start symbol has a circle. Of a check: the table is good. */
     KUSILLAQE_NONCIRCULAR = 0,
     /* A bad table: the first rule that it breaks. These three have no record: fewer than 24 bytes; a count or the start symbol out of
      * range; an offset or the total wrong. */
@@ -51,7 +51,7 @@ enum {
     KUSILLAQE_OUT_OF_STEPS = 8,
     /* The room was used up. */
     KUSILLAQE_OUT_OF_ROOM = 9,
-    /* The shown tree has a circle. */
+    /* The shown tree, a subtree of some tree rooted at the start symbol, has a circle. */
     KUSILLAQE_CIRCULAR = 255
 };
 

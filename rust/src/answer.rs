@@ -7,9 +7,9 @@ use std::fmt;
 /// What the test says of the grammar.
 #[derive(Clone, Copy, Debug)]
 pub enum Answer<'a> {
-    /// No finite complete tree, rooted at any symbol, has a circle.
+    /// No finite complete tree rooted at the start symbol has a circle.
     Noncircular,
-    /// The tree of this root has a circle.
+    /// The tree of this root has a circle. It is a subtree of some tree rooted at the start symbol.
     Circular(Node<'a>),
     /// The limit was reached; a larger one may give a verdict.
     OutOfSteps,

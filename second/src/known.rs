@@ -273,20 +273,130 @@ pub fn family_u(k: usize) -> Grammar {
     joined(k, &pairs.map(|pair| vec![pair]).collect::<Vec<_>>())
 }
 
-/// T_4 with a symbol that has six X and a symbol without a finite tree on its
-/// right: no combination, however many entries X has.
-pub fn starved() -> Grammar {
-    let mut grammar = family_t(4);
-    let (whole, never) = (grammar.symbols.len(), grammar.symbols.len() + 1);
+/// A synthesized attribute 0 that takes from itself.
+const CIRCLE: Fields = (0, 0, 0, 0);
+
+/// S → X X X X X X L behind nine X → X, which pass everything on and add a
+/// pair each: 512 entries of X, and none of L, whose production comes last
+/// and has a circle. S has no combination, however many entries X has.
+pub fn starved_circular() -> Grammar {
+    let k = 4;
+    let late = 2;
+    let mut grammar = family(k);
+    grammar.symbols.push(symbol("s"));
+    grammar.productions.push(leaf(&[], k));
+    for added in 0..9 {
+        let mut adding = step(&straight(k), k);
+        adding.edges.push(edge((0, added / k, 0, k + added % k)));
+        adding.edges.sort();
+        grammar.productions.push(adding);
+    }
+    let right = [X, X, X, X, X, X, late];
+    grammar.productions.push(production(S, &right, &[]));
+    grammar.productions.push(production(late, &[], &[CIRCLE]));
+    grammar
+}
+
+/// A behind the productions of a spare symbol: one has a circle, the other
+/// makes one with a graph of A's symbol 1.
+pub fn spare() -> Grammar {
+    let spare = 2;
+    let mut grammar = a();
+    grammar.symbols.push(symbol("s"));
+    let productions = [
+        production(spare, &[], &[CIRCLE]),
+        production(spare, &[1, spare], &[(1, 2, 1, 0)]),
+    ];
+    grammar.productions.splice(0..0, productions);
+    grammar
+}
+
+/// A behind 0 → 1 2, which has a circle in its own edges, and 2 → 2: symbol 2
+/// has no finite tree.
+pub fn endless() -> Grammar {
+    let endless = 2;
+    let mut grammar = a();
     grammar.symbols.push(symbol(""));
+    let productions = [
+        production(0, &[1, endless], &[(1, 0, 1, 0)]),
+        production(endless, &[endless], &[]),
+    ];
+    grammar.productions.splice(0..0, productions);
+    grammar
+}
+
+/// The same behind 0 → 3 2: symbol 3 has a finite tree, and a circle, and
+/// stands only beside symbol 2.
+pub fn hidden() -> Grammar {
+    let (endless_symbol, hidden) = (2, 3);
+    let mut grammar = endless();
+    grammar.symbols.push(symbol("s"));
+    let productions = [
+        production(0, &[hidden, endless_symbol], &[]),
+        production(hidden, &[], &[CIRCLE]),
+    ];
+    grammar.productions.splice(0..0, productions);
+    grammar
+}
+
+/// B below a start symbol 2 that has only 2 → 0 2, and no finite tree.
+pub fn startless() -> Grammar {
+    let mut grammar = b();
     grammar.symbols.push(symbol(""));
-    let right = [X, X, X, X, X, X, never];
-    grammar.productions.push(production(whole, &right, &[]));
+    grammar.productions.push(production(2, &[0, 2], &[]));
+    grammar.start = 2;
+    grammar
+}
+
+/// The symbol at the start of the chain, and the one that stands behind it.
+const CHAIN_START: usize = 254;
+const CHAIN_END: usize = 255;
+
+/// The longest chain: 256 symbols and 512 productions, all with seven right
+/// symbols but for two that have none. Symbol k has a finite tree because
+/// k + 1 has one, and is met below k + 1; the last symbol is met below 0. A
+/// walk over the productions by number learns one of these things, so that it
+/// takes 255 walks to learn all of either.
+pub fn chain() -> Grammar {
+    let seven = |left, right| production(left, &[right; 7], &[]);
+    let mut below_0 = [CHAIN_END; 7];
+    below_0[0] = 1;
+    let mut productions = vec![
+        production(CHAIN_END, &[], &[]),
+        production(0, &below_0, &[]),
+    ];
+    productions.extend((1..CHAIN_START).map(|left| seven(left, left + 1)));
+    productions.push(production(CHAIN_START, &[], &[]));
+    productions.extend((1..=CHAIN_START).map(|left| seven(left, left - 1)));
+    productions.push(seven(0, 0));
+    productions.push(seven(CHAIN_END, CHAIN_END));
+    let mut symbols = vec![symbol(""); CHAIN_END];
+    symbols.push(symbol("s"));
+    Grammar {
+        symbols,
+        productions,
+        start: CHAIN_START,
+    }
+}
+
+/// The same with a circle in production 0, whose left symbol is met last.
+pub fn chain_circular() -> Grammar {
+    let mut grammar = chain();
+    grammar.productions[0].edges.push(edge(CIRCLE));
+    grammar
+}
+
+/// The same again, but the start symbol's production without right symbols
+/// now has seven start symbols: none but the last symbol has a finite tree.
+pub fn chain_startless() -> Grammar {
+    let mut grammar = chain_circular();
+    grammar.productions[1 + CHAIN_START].right = vec![CHAIN_START; 7];
     grammar
 }
 
 /// The longest table there is, circular through its last edge alone: a leaf
-/// and a step for each of 256 symbols, both with 16 edges.
+/// and a step for each of 256 symbols, both with 16 edges. The steps lead from
+/// each symbol to the next, so that all of it takes part.
 pub fn full() -> Grammar {
     let last = 255;
     let symbols = vec![symbol("iiiissss"); last + 1];
@@ -313,7 +423,7 @@ pub fn full() -> Grammar {
     Grammar {
         symbols,
         productions,
-        start: last,
+        start: 0,
     }
 }
 
@@ -340,5 +450,13 @@ pub fn samples() -> Vec<(&'static str, Grammar)> {
         ("s3", family_s(3)),
         ("t4", family_t(4)),
         ("u3", family_u(3)),
+        ("starved-circular", starved_circular()),
+        ("spare", spare()),
+        ("endless", endless()),
+        ("hidden", hidden()),
+        ("startless", startless()),
+        ("chain", chain()),
+        ("chain-circular", chain_circular()),
+        ("chain-startless", chain_startless()),
     ]
 }

@@ -6,8 +6,10 @@
 pub mod damage;
 pub mod faults;
 pub mod graph;
+pub mod kinds;
 pub mod known;
 pub mod make;
+pub mod parts;
 pub mod passes;
 pub mod random;
 pub mod report;

@@ -20,9 +20,19 @@ pub struct Shape {
     /// The fewest and the most right symbols of a production; where none are
     /// allowed, a third of the productions have none.
     pub right: (usize, usize),
-    /// Whether each symbol has a production without right symbols, as far as
-    /// the productions suffice. Otherwise many have no finite tree.
-    pub grounded: bool,
+    pub parts: Parts,
+}
+
+/// Which symbols have finite trees, and on which right sides they stand.
+#[derive(Clone, Copy)]
+pub enum Parts {
+    /// As it comes: many symbols have no finite tree.
+    Any,
+    /// Each symbol has a production without right symbols, as far as the
+    /// productions suffice.
+    Grounded,
+    /// The same, but some symbols are kept out of the start symbol's trees.
+    Mixed,
 }
 
 /// A mix of all kinds below.
@@ -85,13 +95,13 @@ pub fn tiny(seed: u64) -> Vec<u8> {
         edges: random.between(0, 12),
         attributes: (0, 3),
         right: (0, 2),
-        grounded: random.once_in(2),
+        parts: any_parts(random),
     };
     table::write(&grammar(random, &shape))
 }
 
-/// Few symbols, each with attributes and a finite tree, so that the passes
-/// have something to do.
+/// Few symbols, each with attributes and most with a finite tree, so that the
+/// passes have something to do.
 pub fn lively(seed: u64) -> Vec<u8> {
     let random = &mut Random::new(seed);
     let symbols = random.between(1, 4);
@@ -101,7 +111,7 @@ pub fn lively(seed: u64) -> Vec<u8> {
         edges: random.between(6, 24),
         attributes: (2, 4),
         right: (1, 2),
-        grounded: true,
+        parts: mostly_finite(random),
     };
     table::write(&grammar(random, &shape))
 }
@@ -114,7 +124,7 @@ pub fn small(seed: u64) -> Vec<u8> {
         edges: random.between(0, 60),
         attributes: (0, MOST_ATTRIBUTES),
         right: (0, random.between(1, 4)),
-        grounded: random.once_in(2),
+        parts: any_parts(random),
     };
     table::write(&grammar(random, &shape))
 }
@@ -127,7 +137,7 @@ pub fn large(seed: u64) -> Vec<u8> {
         edges: random.between(0, MOST_EDGES),
         attributes: (0, MOST_ATTRIBUTES),
         right: (0, random.between(1, MOST_RIGHT)),
-        grounded: random.once_in(2),
+        parts: any_parts(random),
     };
     table::write(&grammar(random, &shape))
 }
@@ -152,21 +162,22 @@ pub fn border_of(random: &mut Random, which: usize) -> Vec<u8> {
         edges: random.between(0, 30),
         attributes: (0, MOST_ATTRIBUTES),
         right: (0, 3),
-        grounded: false,
+        parts: any_parts(random),
     };
     let shape = match which {
         0 => Shape {
             right: (MOST_RIGHT, MOST_RIGHT),
+            parts: Parts::Any,
             ..usual
         },
         1 => Shape {
             attributes: (MOST_ATTRIBUTES, MOST_ATTRIBUTES),
             ..usual
         },
-        2 => Shape {
-            symbols: MOST_SYMBOLS,
-            ..usual
-        },
+        2 => {
+            let few = grammar(random, &usual);
+            return table::write(&spread(random, few));
+        }
         3 => Shape {
             productions: MOST_PRODUCTIONS,
             ..usual
@@ -184,10 +195,10 @@ pub fn border_of(random: &mut Random, which: usize) -> Vec<u8> {
             edges: MOST_EDGES,
             attributes: (1, MOST_ATTRIBUTES),
             right: (0, MOST_RIGHT),
-            grounded: random.once_in(2),
+            parts: any_parts(random),
         },
         6 => return table::write(&known::empty()),
-        _ => return table::write(&known::starved()),
+        _ => return table::write(&known::starved_circular()),
     };
     table::write(&grammar(random, &shape))
 }
@@ -221,7 +232,7 @@ pub fn maps(seed: u64) -> Vec<u8> {
     table::write(&known::steps(k, &lists))
 }
 
-/// Few symbols with many attributes, each with a finite tree: where no circle
+/// Few symbols with many attributes, most with a finite tree: where no circle
 /// ends them, runs of some hundred closures.
 pub fn long(seed: u64) -> Vec<u8> {
     let random = &mut Random::new(seed);
@@ -232,12 +243,12 @@ pub fn long(seed: u64) -> Vec<u8> {
         edges: random.between(20, 70),
         attributes: (4, MOST_ATTRIBUTES),
         right: (random.below(2), 2),
-        grounded: true,
+        parts: mostly_finite(random),
     };
     table::write(&grammar(random, &shape))
 }
 
-/// Productions with seven right symbols that have finite trees: compound
+/// Productions with seven right symbols, most with finite trees: compound
 /// graphs of up to 64 nodes.
 pub fn sevens(seed: u64) -> Vec<u8> {
     let random = &mut Random::new(seed);
@@ -248,7 +259,7 @@ pub fn sevens(seed: u64) -> Vec<u8> {
         edges: random.between(10, 80),
         attributes: (random.between(4, MOST_ATTRIBUTES), MOST_ATTRIBUTES),
         right: (MOST_RIGHT, MOST_RIGHT),
-        grounded: true,
+        parts: mostly_finite(random),
     };
     table::write(&grammar(random, &shape))
 }
@@ -282,20 +293,131 @@ pub fn grammar(random: &mut Random, shape: &Shape) -> Grammar {
     let mut productions: Vec<_> = (0..shape.productions)
         .map(|_| production(random, shape))
         .collect();
-    if shape.grounded {
-        for (symbol, production) in productions.iter_mut().enumerate().take(shape.symbols) {
-            production.left = symbol;
-            production.right.clear();
+    let start = random.below(shape.symbols);
+    match shape.parts {
+        Parts::Any => (),
+        Parts::Grounded => ground(random, &mut productions, shape.symbols),
+        Parts::Mixed => {
+            ground(random, &mut productions, shape.symbols);
+            mix(random, &mut productions, shape, start);
         }
-        random.shuffle(&mut productions);
     }
     let mut grammar = Grammar {
-        start: random.below(shape.symbols),
         symbols,
         productions,
+        start,
     };
     add_edges(random, &mut grammar, shape.edges);
     grammar
+}
+
+fn any_parts(random: &mut Random) -> Parts {
+    *random.pick(&[Parts::Any, Parts::Grounded, Parts::Mixed, Parts::Mixed])
+}
+
+fn mostly_finite(random: &mut Random) -> Parts {
+    *random.pick(&[Parts::Grounded, Parts::Mixed])
+}
+
+/// Makes one production for each symbol end a tree.
+fn ground(random: &mut Random, productions: &mut [Production], symbols: usize) {
+    for (symbol, production) in productions.iter_mut().enumerate().take(symbols) {
+        production.left = symbol;
+        production.right.clear();
+    }
+    random.shuffle(productions);
+}
+
+/// What a symbol is in a mixed grammar.
+#[derive(Clone, Copy, PartialEq, Eq)]
+enum Role {
+    Usual,
+    /// On no right side but those of its like, or beside an endless symbol.
+    Spare,
+    /// With an endless symbol on each of its right sides: no finite tree.
+    Endless,
+}
+
+/// Changes right sides so that each symbol has the role drawn for it.
+fn mix(random: &mut Random, productions: &mut [Production], shape: &Shape, start: usize) {
+    let roles = roles(random, shape.symbols, start);
+    let of_role = |role| {
+        let symbols = 0..shape.symbols;
+        let own = symbols.filter(|&symbol| roles[symbol] == role);
+        own.collect::<Vec<_>>()
+    };
+    let (usual, endless) = (of_role(Role::Usual), of_role(Role::Endless));
+    for production in productions {
+        let mut spare = production.right.clone();
+        spare.retain(|&symbol| roles[symbol] == Role::Spare);
+        match roles[production.left] {
+            Role::Endless => put_one(random, production, &endless, shape.right.1),
+            Role::Usual if !spare.is_empty() && random.once_in(2) => {
+                put_one(random, production, &endless, shape.right.1)
+            }
+            Role::Usual => {
+                let right = production.right.iter_mut();
+                for symbol in right.filter(|symbol| spare.contains(symbol)) {
+                    *symbol = *random.pick(&usual);
+                }
+            }
+            Role::Spare => (),
+        }
+    }
+}
+
+/// Of the symbols beside the start one is endless, one spare, one usual, and
+/// so on. The start is usual, but for once in five times.
+fn roles(random: &mut Random, symbols: usize, start: usize) -> Vec<Role> {
+    let mut roles: Vec<_> = [Role::Endless, Role::Spare, Role::Usual]
+        .into_iter()
+        .cycle()
+        .take(symbols - 1)
+        .collect();
+    random.shuffle(&mut roles);
+    let of_start = if random.once_in(5) {
+        Role::Endless
+    } else {
+        Role::Usual
+    };
+    roles.insert(start, of_start);
+    roles
+}
+
+/// Puts one of the symbols on the right side, of at most so many.
+fn put_one(random: &mut Random, production: &mut Production, symbols: &[usize], most: usize) {
+    let symbol = *random.pick(symbols);
+    let right = &mut production.right;
+    if right.len() < most {
+        right.insert(random.below(right.len() + 1), symbol);
+    } else {
+        let slot = random.below(right.len());
+        right[slot] = symbol;
+    }
+}
+
+/// The grammar's symbols somewhere among 256, the others without productions.
+fn spread(random: &mut Random, grammar: Grammar) -> Grammar {
+    let mut places: Vec<_> = (0..MOST_SYMBOLS).collect();
+    random.shuffle(&mut places);
+    let mut symbols: Vec<_> = (0..MOST_SYMBOLS)
+        .map(|_| symbol(random, (0, MOST_ATTRIBUTES)))
+        .collect();
+    for (symbol, &place) in grammar.symbols.into_iter().zip(&places) {
+        symbols[place] = symbol;
+    }
+    let mut productions = grammar.productions;
+    for production in &mut productions {
+        production.left = places[production.left];
+        for symbol in &mut production.right {
+            *symbol = places[*symbol];
+        }
+    }
+    Grammar {
+        symbols,
+        productions,
+        start: places[grammar.start],
+    }
 }
 
 fn symbol(random: &mut Random, (fewest, most): (usize, usize)) -> Symbol {

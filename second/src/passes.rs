@@ -1,7 +1,9 @@
 //! The passes, with any closure limit and any room.
 
 use crate::graph::compound_closure;
+use crate::parts::taking_part;
 use crate::table::{self, Grammar, Refusal, MOST_RIGHT};
+use std::collections::BTreeSet;
 
 /// Records beyond this many are never used.
 pub const MOST_ENTRIES: usize = 4096;
@@ -86,7 +88,7 @@ pub fn run_grammar(grammar: &Grammar, limit: u32, room: usize) -> Outcome {
         room: room.min(MOST_ENTRIES),
         outcome: Outcome::new(),
     };
-    run.outcome.answer = run.all_passes();
+    run.outcome.answer = run.all_passes(&taking_part(grammar));
     run.outcome
 }
 
@@ -98,11 +100,12 @@ struct Run<'a> {
 }
 
 impl Run<'_> {
-    fn all_passes(&mut self) -> Answer {
+    /// A pass takes the productions that take part, by number.
+    fn all_passes(&mut self, part: &BTreeSet<usize>) -> Answer {
         loop {
             self.outcome.passes += 1;
             let stored_before = self.outcome.entries();
-            for production in 0..self.grammar.productions.len() {
+            for &production in part {
                 if let Some(end) = self.turn(production) {
                     return end;
                 }

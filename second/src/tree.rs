@@ -10,6 +10,18 @@ pub struct Tree {
     pub below: Vec<Tree>,
 }
 
+/// The symbol at the root.
+pub fn symbol(grammar: &Grammar, tree: &Tree) -> usize {
+    grammar.productions[tree.production].left
+}
+
+/// Whether each node has one complete tree for each right symbol.
+pub fn is_complete(grammar: &Grammar, tree: &Tree) -> bool {
+    let below = tree.below.iter().map(|tree| symbol(grammar, tree));
+    let right = &grammar.productions[tree.production].right;
+    below.eq(right.iter().copied()) && tree.below.iter().all(|tree| is_complete(grammar, tree))
+}
+
 /// The tree of a stored entry.
 pub fn of_entry(grammar: &Grammar, outcome: &Outcome, entry: usize) -> Tree {
     let entry = &outcome.stored[entry];
@@ -131,13 +143,13 @@ pub fn flat_trees(grammar: &Grammar, levels: usize, most: usize) -> Vec<Tree> {
 }
 
 /// Rows of trees, one for each right symbol; at most `most` rows.
-fn rows(grammar: &Grammar, trees: &[Tree], right: &[usize], most: usize) -> Vec<Vec<Tree>> {
+pub fn rows(grammar: &Grammar, trees: &[Tree], right: &[usize], most: usize) -> Vec<Vec<Tree>> {
     let mut rows = vec![Vec::new()];
     for &symbol in right {
         let mut longer = Vec::new();
         for row in &rows {
             for tree in trees {
-                if grammar.productions[tree.production].left == symbol && longer.len() < most {
+                if self::symbol(grammar, tree) == symbol && longer.len() < most {
                     let mut row: Vec<Tree> = row.clone();
                     row.push(tree.clone());
                     longer.push(row);

@@ -3,6 +3,7 @@
 
 use crate::damage::{damage, Damage, ALL};
 use crate::faults::{with_faults, Fault, OF_EDGES, OF_PRODUCTIONS, OF_SYMBOLS};
+use crate::kinds::{has_circle_outside, kinds, Kind};
 use crate::known;
 use crate::make;
 use crate::passes::{run, run_grammar, Answer, Outcome, MOST_ENTRIES};
@@ -39,9 +40,9 @@ type Maker = fn(u64) -> Vec<u8>;
 /// Random tables: how many of each, and the fewest and the most closures
 /// that one may need. With few a circle came early; many take long.
 const MADE: [(Maker, usize, u32, u32); 7] = [
-    (make::tiny, 90, 0, USUAL_MOST),
-    (make::lively, 160, 0, USUAL_MOST),
-    (make::small, 180, 0, USUAL_MOST),
+    (make::tiny, 70, 0, USUAL_MOST),
+    (make::lively, 165, 0, USUAL_MOST),
+    (make::small, 165, 0, USUAL_MOST),
     (make::maps, 80, 0, USUAL_MOST),
     (make::long, 120, 20, USUAL_MOST),
     (make::sevens, 60, 10, 1_500),
@@ -51,9 +52,13 @@ const MADE: [(Maker, usize, u32, u32); 7] = [
 /// How many tables whose circle comes late, and from which closure on.
 const LATE_CIRCLES: (usize, u32) = (120, 10);
 
+/// How many noncircular tables for each kind of what takes no part, all with
+/// a circle there.
+const CIRCLES_OUTSIDE: usize = 25;
+
 /// How many tables for each kind of damage, and for each that is one of
 /// faults.
-const DAMAGED: usize = 95;
+const DAMAGED: usize = 85;
 const FAULTY: usize = 20;
 
 /// How many tables for each fault in the first, a middle and the last record;
@@ -84,9 +89,11 @@ pub fn cases(seed: u64) -> Vec<Case> {
     let random = &mut Random::new(seed);
     let mut cases = k1_to_k10();
     cases.extend(known_cases(random));
+    cases.push(chain_case());
     cases.extend(border_cases(random));
     cases.push(crowd_case(random));
     let mut rest = made_cases(random);
+    rest.extend(outside_cases(random));
     rest.extend(damaged_cases(random));
     rest.extend(faulty_cases(random));
     // Mixed, so that what is left over from one kind meets another.
@@ -149,15 +156,15 @@ fn k1_to_k10() -> Vec<Case> {
     ]
 }
 
-/// The grammars with known counts. U_3 makes too many closures.
+/// The grammars with known counts. U_3 makes too many closures, and the chain
+/// for so many runs.
 fn known_cases(random: &mut Random) -> Vec<Case> {
     let samples = known::samples().into_iter();
     let mut grammars: Vec<_> = samples
-        .filter(|(name, _)| *name != "u3")
+        .filter(|(name, _)| !["u3", "chain"].contains(name))
         .map(|(_, grammar)| grammar)
         .collect();
     grammars.push(known::family_u(2));
-    grammars.push(known::starved());
     let mut cases = Vec::new();
     for grammar in grammars {
         cases.push(case(random, table::write(&grammar)));
@@ -166,13 +173,29 @@ fn known_cases(random: &mut Random) -> Vec<Case> {
     cases
 }
 
+/// The chain with just what it needs, and with one closure or entry less.
+fn chain_case() -> Case {
+    let table = table::write(&known::chain());
+    let whole = run(&table, u32::MAX, MOST_ENTRIES);
+    let (closures, entries) = (whole.closures, whole.entries() as u16);
+    let bounds = [
+        (closures, entries),
+        (closures - 1, entries),
+        (closures, entries - 1),
+    ];
+    let runs = bounds.into_iter().map(without_lines).collect();
+    Case { table, runs }
+}
+
 /// Tables at the borders of their size, and some a byte longer than any.
 fn border_cases(random: &mut Random) -> Vec<Case> {
     let mut cases = Vec::new();
-    for (which, count) in [(0, 3), (1, 6), (2, 4), (3, 2), (4, 1)] {
+    for (which, count) in [(0, 3), (1, 6), (2, 4), (3, 1), (4, 1)] {
         let make = |seed| make::border_of(&mut Random::new(seed), which);
+        // With seven right symbols everywhere there is no finite tree.
+        let suits = |_: &[u8], outcome: &Outcome| outcome.closures > 0 || which == 0;
         for _ in 0..count {
-            cases.push(draw(random, make, USUAL_MOST, |_, _| true));
+            cases.push(draw(random, make, USUAL_MOST, suits));
         }
     }
     for kind in ALL {
@@ -297,6 +320,33 @@ fn made_cases(random: &mut Random) -> Vec<Case> {
         }));
     }
     cases
+}
+
+/// Tables that are circular where the wrong productions take part.
+fn outside_cases(random: &mut Random) -> Vec<Case> {
+    let mut cases = Vec::new();
+    for kind in [Kind::Spare, Kind::Endless, Kind::Hidden, Kind::Startless] {
+        for _ in 0..CIRCLES_OUTSIDE {
+            let make = |seed| circle_outside(seed, kind);
+            cases.push(draw(random, make, USUAL_MOST, |_, outcome| {
+                outcome.answer == Answer::Noncircular
+            }));
+        }
+    }
+    cases
+}
+
+/// A table of this kind with a circle in a production that does not take part.
+fn circle_outside(seed: u64, kind: Kind) -> Vec<u8> {
+    let random = &mut Random::new(seed);
+    loop {
+        let make: Maker = *random.pick(&[make::tiny, make::lively, make::small]);
+        let table = make(random.draw());
+        let grammar = table::read(&table).expect("a taken table");
+        if kinds(&grammar).contains(&kind) && has_circle_outside(&grammar) {
+            return table;
+        }
+    }
 }
 
 fn damaged_cases(random: &mut Random) -> Vec<Case> {

@@ -188,8 +188,50 @@ fn last_closure_and_last_entry() {
 #[test]
 fn a_symbol_without_entries_costs_nothing() {
     let began = Instant::now();
-    hold_freely(known::starved(), (Noncircular, 2755, 257, 6));
+    hold_freely(known::starved_circular(), (Circular, 513, 512, 1));
     assert!(began.elapsed() < Duration::from_secs(5));
+}
+
+/// Parts that take no part leave A's answers and numbers as they are.
+#[test]
+fn k1_to_k4_beside_other_parts() {
+    for grammar in [known::spare(), known::endless(), known::hidden()] {
+        hold(grammar.clone(), 10, 3, (Noncircular, 10, 3, 3));
+        hold(grammar.clone(), 9, 3, (OutOfSteps, 9, 3, 3));
+        hold(grammar.clone(), 10, 2, (OutOfRoom, 3, 2, 2));
+        hold(grammar, 0, 0, (OutOfSteps, 0, 0, 1));
+    }
+}
+
+#[test]
+fn report_beside_a_spare_symbol() {
+    let wanted = "noncircular closures 10 entries 3 passes 3\n\
+                  entry 0 symbol 1 production 3 kids graph 4\n\
+                  entry 1 symbol 1 production 4 kids graph 2048\n\
+                  entry 2 symbol 0 production 2 kids 0 graph 0\n";
+    assert_eq!(report(&write(&known::spare()), 1_000_000, 1_024), wanted);
+}
+
+/// The same table, circular or not by its start symbol alone.
+#[test]
+fn the_start_symbol_decides() {
+    let mut grammar = known::startless();
+    hold(grammar.clone(), 0, 0, (Noncircular, 0, 0, 1));
+    hold_freely(grammar.clone(), (Noncircular, 0, 0, 1));
+    grammar.start = 0;
+    hold_freely(grammar.clone(), (Circular, 3, 2, 2));
+    grammar.start = 1;
+    hold_freely(grammar, (Noncircular, 4, 2, 2));
+}
+
+#[test]
+fn chains() {
+    hold_freely(known::chain(), (Noncircular, 66_048, 256, 256));
+    hold_freely(known::chain_circular(), (Circular, 1, 0, 1));
+    hold(known::chain_circular(), 0, 0, (OutOfSteps, 0, 0, 1));
+    hold_freely(known::chain_startless(), (Noncircular, 0, 0, 1));
+    let table = write(&known::chain());
+    assert_eq!(table.len(), 24 + 2 * 256 + 18 * 512);
 }
 
 #[test]

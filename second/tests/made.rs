@@ -3,6 +3,7 @@
 
 use second::damage::{damage, faults_in_edges, faults_in_one_edge, faults_in_records, Damage, ALL};
 use second::faults::{with_faults, Fault, OF_EDGES, OF_PRODUCTIONS, OF_SYMBOLS};
+use second::kinds::{self, Kind};
 use second::random::Random;
 use second::table::Header;
 use second::{make, read, refusal, run, write, Answer};
@@ -245,6 +246,19 @@ fn many_faults() {
             let faulty = with_faults(random, &table, &faults);
             assert_eq!(refusal(&faulty.table), faulty.refusal, "{faults:?} {seed}");
         }
+    }
+}
+
+/// What takes no part comes often and in every kind, and often there is
+/// nothing of it.
+#[test]
+fn cases_have_every_kind() {
+    let grammars: Vec<_> = (0..4000)
+        .filter_map(|seed| read(&make::case(seed)).ok())
+        .collect();
+    for (kind, count, outside) in kinds::count(&grammars) {
+        assert!(count > 100, "{kind:?} {count}");
+        assert!(outside > 20 || kind == Kind::Whole, "{kind:?} {outside}");
     }
 }
 

@@ -1,5 +1,6 @@
 //! The corpus for another program, read back from its files and run again.
 
+use second::kinds::{self, Kind};
 use second::table::{number, Header};
 use second::vectors::{self, Case, Run};
 use second::{read, report};
@@ -224,6 +225,17 @@ fn refusals_at_late_records() {
             .filter(|refusal| refusal.number() == number)
             .filter(|refusal| refusal.record() > Some(255));
         assert!(late.count() >= 1, "{number}");
+    }
+}
+
+/// What takes no part comes in every kind, also with a circle in it.
+#[test]
+fn every_kind() {
+    let tables = parse(&files().stdin).into_iter().map(|case| case.table);
+    let grammars: Vec<_> = tables.filter_map(|table| read(&table).ok()).collect();
+    for (kind, count, outside) in kinds::count(&grammars) {
+        assert!(count >= 50, "{kind:?} {count}");
+        assert!(outside >= 25 || kind == Kind::Whole, "{kind:?} {outside}");
     }
 }
 

@@ -17,7 +17,8 @@ use Rattle.grammar.specs.Table.{grammarOf}
 use Rattle.grammar.specs.Refusal.{refusal}
 use Rattle.rules.specs.declared.Entry.{Entry}
 use Rattle.rules.specs.Passes.{noEntry, entry, passes}
-use Rattle.rules.specs.Test.{systemIn, byNumber, afterCheck, test}
+use Rattle.parts.specs.Rule.{taking}
+use Rattle.rules.specs.Test.{systemIn, afterCheck, test}
 use Rattle.orders.specs.Stored.{Different}
 use Rattle.orders.proofs.Answers.{outcome-sound}
 use Rattle.rows.specs.Rows.{of}
@@ -29,8 +30,8 @@ pub different-test : (bs : List ℕ) (limit room : ℕ) → Different (test bs l
 unfolding test afterCheck
 different-test bs limit room = go (refusal bs)
   where
-    go : (c : Checked) → Different (afterCheck c (passes (systemIn bs) limit room (byNumber (grammarOf bs))) .entries)
-    go Good = outcome-sound (systemIn bs) (byNumber (grammarOf bs)) limit room .different
+    go : (c : Checked) → Different (afterCheck c (passes (systemIn bs) limit room (taking (grammarOf bs))) .entries)
+    go Good = outcome-sound (systemIn bs) (taking (grammarOf bs)) limit room .different
     go (Bad b) = λ i j l m s g. absurd (omega arith)
 
 of-decides : (s g : ℕ) (e : Entry) → Decides (of s g e) ((e .symbol ≡ s) × (e .graph ≡ g))

@@ -19,7 +19,7 @@ use Rattle.trees.specs.TakesPart.{HasTree, FromStart, TakesPart}
 use Rattle.trees.proofs.Subtrees.{kid-symbol, kid-complete, kid-of}
 use Rattle.trees.proofs.Starts.{from-root, from-complete, from-below, from-other, told-from-start, circular-from-start, pairs-from-start}
 use Rattle.parts.specs.Sets.{Symbols}
-use Rattle.parts.specs.Rule.{treed, reached, partsOf, takesPart, taking}
+use Rattle.parts.specs.Rule.{treed, reached, takesPart, taking}
 use Rattle.parts.specs.Exactly.{Numbered, Found, ExactlyNumbered}
 use Rattle.parts.proofs.Sets.{In}
 use Rattle.parts.proofs.Rule.{AllIn, both-in, treed-closed, treed-holds, start-reached, reached-closed, reached-holds}
@@ -146,14 +146,14 @@ module _ (g : Grammar) (numbered : Numbered g) where
   takes-decides p = both-in T R (production g p)
 
   found : (p : ℕ) → Found g p → InTable g p × In R (production g p .left) × AllIn T (rights (production g p))
-  unfolding taking partsOf
+  unfolding taking
   found p m =
       let k = keep-mem takes (upFrom 0 (length (g .productions))) m in
       let w = takes-decides p .so (k .1) in
       (omega (arith, upFrom-mem 0 (length (g .productions)) (k .0) .1), w .0, w .1)
 
   find : (p : ℕ) → InTable g p → In R (production g p .left) → AllIn T (rights (production g p)) → Found g p
-  unfolding taking partsOf
+  unfolding taking
   find p l r h =
       keep-at takes (upFrom 0 (length (g .productions)))
       (upFrom-at 0 (length (g .productions)) p (omega arith) (omega arith))

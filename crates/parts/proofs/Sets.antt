@@ -58,11 +58,11 @@ not-past A s four l = go (has A s) refl
     go true e = absurd (omega (arith, bit-past A s four l, in-bit A s e))
     go false e = refl
 
-pub in-low : (A : Symbols) (s : ℕ) → IsSet A → In A s → s < 256
-in-low A s i h = go (decLe 256 s)
+pub in-low : (A : Symbols) (s : ℕ) → length A ≡ 4 → In A s → s < 256
+in-low A s four h = go (decLe 256 s)
   where
     go : Dec (256 ≤ s) → s < 256
-    go (yes l) = absurd (omega (arith, bit-past A s (i .four) l, in-bit A s h))
+    go (yes l) = absurd (omega (arith, bit-past A s four l, in-bit A s h))
     go (no l) = omega arith
 
 -- ---- no symbol
@@ -229,7 +229,7 @@ module _ (b : Bool) (A : Symbols) (ss : List ℕ) (i : IsSet A) where
   pub if-same : (b ≡ true → (s : ℕ) → List·Memᴰ s ss → s < 256 → In A s) → addIf b A ss ≡ A
   if-same h =
       same-sets (addIf b A ss) A if-set i
-      (λ t k. ⊎-elim (λ w. h (w .0) t (w .1) (in-low (addIf b A ss) t if-set k)) (λ o. o) (if-only t k))
+      (λ t k. ⊎-elim (λ w. h (w .0) t (w .1) (in-low (addIf b A ss) t (if-set .four) k)) (λ o. o) (if-only t k))
       if-more
 
 -- ---- the test of two sets

@@ -93,5 +93,5 @@ unfolding size
 same-or-more A B i j w = go (decLe (count 256 B) (count 256 A))
   where
     go : Dec (count 256 B ≤ count 256 A) → (B ≡ A) ⊎ (count 256 A < count 256 B)
-    go (yes l) = inl (same-sets B A j i (λ s h. count-same 256 A B w l s (in-low B s j h) h) w)
+    go (yes l) = inl (same-sets B A j i (λ s h. count-same 256 A B w l s (in-low B s (j .four) h) h) w)
     go (no l) = inr (omega arith)

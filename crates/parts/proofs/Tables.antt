@@ -1,16 +1,18 @@
 -- The rule for a table that is taken: it has at most 256 symbols, each symbol of a production is one of them, and its productions are whole.
 -- Assumes nothing.
 use mathlib.Core.List.{List}
-use mathlib.Core.Path.{_≡_, refl, _∙_}
-use Prim.Native.Nat.{ℕ, _≤_, _<_}
+use mathlib.Core.Path.{_≡_, refl, sym, _∙_}
+use Prim.Native.Nat.{ℕ}
 use native.Mathlib.Omega.{arith}
-use borrow.Author.Tests.{le-leb, lt-leb}
+use borrow.Author.Tests.{le-leb}
+use lib.Dec.{leb}
+use mathlib.Core.Bool.{true, false}
 use lib.ListN.{length, length-map}
 use Rattle.numbers.specs.Lists.{upFrom}
 use Rattle.numbers.proofs.Ranges.{length-upFrom}
 use Rattle.grammar.specs.Table.{N, startOf, atEdges, grammarOf}
-use Rattle.parts.specs.declared.Parts.{Parts}
-use Rattle.parts.specs.Rule.{treed, reached, partsOf, noParts, partsIn}
+use Rattle.parts.specs.Sets.{Symbols, none}
+use Rattle.parts.specs.Rule.{ifWhole}
 use Rattle.parts.specs.Exactly.{ValidNumbered, ValidExactly, TakesPartExactly, ValidWhole}
 use Rattle.parts.proofs.Exactly.{exactly-numbered}
 
@@ -41,16 +43,14 @@ takes-part bs v = valid-exactly bs v .takes-part
 
 -- ---- where the productions are whole, and where not
 
-pub parts-short : (bs : List ℕ) → length bs < atEdges bs → partsIn bs ≡ noParts
-unfolding partsIn
-parts-short bs l = rw (lt-leb (atEdges bs) (length bs) l)
+module _ (bs : List ℕ) (A : Symbols) where
+  pub set-whole : leb (atEdges bs) (length bs) ≡ true → A ≡ ifWhole bs A
+  unfolding ifWhole
+  set-whole h = rw h
 
-pub parts-whole :
-    (bs T R : List ℕ) → atEdges bs ≤ length bs → T ≡ treed (grammarOf bs) → R ≡ reached (grammarOf bs) (treed (grammarOf bs))
-    → _≡_ {A = Parts} (record { treed = T; reached = R }) (partsIn bs)
-unfolding partsIn partsOf
-parts-whole bs T R l t r = rw (le-leb (atEdges bs) (length bs) l) (λ i. record { treed = t i; reached = r i })
+  pub set-short : leb (atEdges bs) (length bs) ≡ false → none ≡ ifWhole bs A
+  unfolding ifWhole
+  set-short h = rw h
 
 pub valid-whole : ValidWhole
-unfolding partsIn
-valid-whole bs v = rw (le-leb (atEdges bs) (length bs) (omega (arith, v .offsets .given)))
+valid-whole bs v A = sym (set-whole bs A (le-leb (atEdges bs) (length bs) (omega (arith, v .offsets .given))))

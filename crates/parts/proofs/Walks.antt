@@ -67,7 +67,7 @@ module _
         let j = if-set (test A p) A (targets p) i in
         walk-holds ps (F A p) j (λ B q m. keeps B q (List·Memᴰ·tail m))
         (λ s k.
-        ⊎-elim (λ w. keeps A p (List·Memᴰ·head refl) h (w .0) s (w .1) (in-low (F A p) s j k)) (h s)
+        ⊎-elim (λ w. keeps A p (List·Memᴰ·head refl) h (w .0) s (w .1) (in-low (F A p) s (j .four) k)) (h s)
         (if-only (test A p) A (targets p) i s k))
 
     pub again-holds :

@@ -11,7 +11,8 @@ use Rattle.grammar.specs.Valid.{Valid}
 use Rattle.trees.specs.Tree.{Tree, Complete, Circular}
 use Rattle.trees.specs.Record.{OfTree}
 use Rattle.trees.specs.TakesPart.{HasTree, FromStart, TakesPart, CircularFromStart, PairFromStart}
-use Rattle.parts.specs.Rule.{partsOf, partsIn, taking}
+use Rattle.parts.specs.Sets.{Symbols}
+use Rattle.parts.specs.Rule.{taking, ifWhole}
 
 -- what the rules of the table give: at most 256 symbols, and each symbol of a production is one of them
 pub record Numbered (g : Grammar) : Type 0 where
@@ -51,4 +52,4 @@ TakesPartExactly = (bs : List ℕ) → Valid bs → (p : ℕ) → Found (grammar
 
 -- its bytes do not end before its productions do
 abbrev pub ValidWhole : Type 0
-ValidWhole = (bs : List ℕ) → Valid bs → partsIn bs ≡ partsOf (grammarOf bs)
+ValidWhole = (bs : List ℕ) → Valid bs → (A : Symbols) → ifWhole bs A ≡ A

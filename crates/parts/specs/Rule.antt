@@ -9,7 +9,6 @@ use Rattle.numbers.specs.Lists.{both, every, keep, upFrom}
 use Rattle.grammar.specs.declared.Production.{Production}
 use Rattle.grammar.specs.Grammar.{Grammar, production, rights}
 use Rattle.grammar.specs.Table.{atEdges, grammarOf}
-use Rattle.parts.specs.declared.Parts.{Parts}
 use Rattle.parts.specs.Sets.{Symbols, none, has, addIf, sameSets}
 
 -- ---- walks over the productions
@@ -53,9 +52,6 @@ reached g T = grownOut (walk (spread T) (g .productions)) (begun T (g .start))
 
 -- ---- what takes part
 
-unfoldable pub partsOf : Grammar → Parts
-partsOf g = let T = treed g in record { treed = T; reached = reached g T }
-
 -- the left symbol is reached, and each right symbol has a finite tree
 unfoldable pub takesPart : Symbols → Symbols → Production → Bool
 takesPart T R p = both (has R (p .left)) (every (has T) (rights p))
@@ -63,12 +59,9 @@ takesPart T R p = both (has R (p .left)) (every (has T) (rights p))
 -- the productions of the table that do, by number: what a pass goes over
 unfoldable pub taking : Grammar → List ℕ
 taking g =
-    let parts = partsOf g in
-    keep (λ p. takesPart (parts .treed) (parts .reached) (production g p)) (upFrom 0 (length (g .productions)))
+    let T = treed g in
+    keep (λ p. takesPart T (reached g T) (production g p)) (upFrom 0 (length (g .productions)))
 
--- ---- of a table; where the bytes end before its productions do, nothing is reached
-abbrev pub noParts : Parts
-noParts = record { treed = none; reached = none }
-
-unfoldable pub partsIn : List ℕ → Parts
-partsIn bs = cond (leb (atEdges bs) (length bs)) (partsOf (grammarOf bs)) noParts
+-- ---- of a table; where the bytes end before its productions do, a set has no symbol
+unfoldable pub ifWhole : List ℕ → Symbols → Symbols
+ifWhole bs A = cond (leb (atEdges bs) (length bs)) A none

@@ -18,7 +18,6 @@ use Rattle.passes.specs.Slices.{Slices, roomOf, Tells, entryAt, entriesT
 use Rattle.passes.specs.Follow.{reportOf, stateOf, ranOf, Beyond, Kept, Follows, Roomy}
 use Rattle.passes.proofs.Entries.{length-entries, field-taken, kids-taken, written-over}
 use Rattle.passes.proofs.Following.{kept-same, kept-then, ran-going, ran-stopped}
-use Rattle.passes.proofs.Passing.{through}
 
 -- ---- the room of the slices
 
@@ -80,11 +79,11 @@ module _ (W : System) (limit room : ℕ) (ps : List ℕ) (σ₀ : Slices) (r₀ 
       }
 
   module _ (begun : ℕ) (σ : Slices) (r : Run) (reached : Reached W limit room ps σ₀ r₀ begun σ r) (τ : Slices) (q : Run)
-      (f : Follows room (through W room ps) σ r τ q) where
+      (f : Follows room (λ limit. pass W limit room ps) σ r τ q) where
     ran : ranOf limit τ q ≡ pass W limit room ps (stateOf limit σ r)
     ran =
         f .ran limit (omega (arith, reached .kept .left))
-        ∙ ap (λ (x : Ran). andThen x (through W room ps limit)) (ran-going limit σ r (reached .going))
+        ∙ ap (λ (x : Ran). andThen x (pass W limit room ps)) (ran-going limit σ r (reached .going))
 
     more : State → Outcome
     more = passesFrom W limit room (room - begun) ps (suc begun)

@@ -81,7 +81,7 @@ module _ (bs : List ℕ) (good : refusal bs ≡ Good) where
     made : (gs : List ℕ) → length gs ≡ production g p .n → take (8 * suc (length gs)) (placedFrom 8 1 gs (own 8 (edgesOf g p) (replicate 64 0))) ≡ compound 8 (edgesOf g p) gs
     made gs h = table-compound 8 64 (edgesOf g p) gs (edges-within p (length gs) h) (omega (arith, h, few))
 
-    pub agrees : (room first : ℕ) → Agrees (systemIn bs) (taskOf bs p room first) (ownOf bs p)
+    pub agrees : (room first : ℕ) → Agrees (systemIn bs) (taskOf p (production g p) room first) (ownOf bs p)
     unfolding taskOf ownOf systemOf systemBy
     agrees room first =
         record {
@@ -93,7 +93,7 @@ module _ (bs : List ℕ) (good : refusal bs ≡ Good) where
         }
 
   -- a turn begins
-  module _ (p room : ℕ) (there : p < P bs) (σ : Slices) (r : Run) (k : Task) (made : k ≡ taskOf bs p room (r .stored)) where
+  module _ (p room : ℕ) (there : p < P bs) (σ : Slices) (r : Run) (k : Task) (made : k ≡ taskOf p (production g p) room (r .stored)) where
     pub task-ready : Roomy room σ r → r .course ≡ Going → InTurn k σ r
     unfolding taskOf
     task-ready h on =
@@ -112,7 +112,7 @@ module _ (bs : List ℕ) (good : refusal bs ≡ Good) where
         → Follows room (λ limit. turn (systemIn bs) limit room p) σ r τ q
     unfolding taskOf
     task-turn rows own n none picked τ q f =
-        turn-follows (systemIn bs) (taskOf bs p room (r .stored)) (ownOf bs p) (agrees p there room (r .stored)) σ r picked τ q refl
-        (subst (λ (l : List ℕ). Follows room (over (taskOf bs p room (r .stored)) l (combosFrom (taskOf bs p room (r .stored)) (entriesTo σ (r .stored)) 0 picked)) σ r τ q) own
+        turn-follows (systemIn bs) (taskOf p (production g p) room (r .stored)) (ownOf bs p) (agrees p there room (r .stored)) σ r picked τ q refl
+        (subst (λ (l : List ℕ). Follows room (over (taskOf p (production g p) room (r .stored)) l (combosFrom (taskOf p (production g p) room (r .stored)) (entriesTo σ (r .stored)) 0 picked)) σ r τ q) own
         (subst (λ (t : Task). Follows (t .room) (over t rows (combosFrom t (entriesTo σ (t .first)) 0 picked)) σ r τ q) made
         (subst (λ (i : ℕ). Follows (k .room) (over k rows (combosFrom k (entriesTo σ (k .first)) i picked)) σ r τ q) none f)))

@@ -1,5 +1,5 @@
 -- The test by the check's answer. Assumes nothing.
-use mathlib.Core.Path.{_≡_, refl, subst}
+use mathlib.Core.Path.{_≡_, refl, _∙_, subst}
 use mathlib.Core.List.{List}
 use Prim.Native.Nat.{ℕ}
 use Rattle.numbers.specs.Lists.{upFrom}
@@ -8,17 +8,30 @@ use Rattle.grammar.specs.declared.Checked.the-variants.{Good, Refused as Bad}
 use Rattle.grammar.specs.Table.{P, grammarOf}
 use Rattle.grammar.specs.Refusal.{refusal}
 use Rattle.grammar.proofs.Lookups.{productions-many}
+use Rattle.grammar.proofs.Valid.{valid}
+use Rattle.parts.specs.Sets.{Symbols}
+use Rattle.parts.specs.Rule.{treed, reached, taking, ifWhole}
+use Rattle.parts.proofs.Tables.{valid-whole}
 use Rattle.rules.specs.declared.Answer.the-variants.{Refused}
 use Rattle.rules.specs.declared.Report.{Report}
 use Rattle.rules.specs.Passes.{Outcome, outcome, noRoot, empty, passes}
 use Rattle.rules.specs.Test.{systemIn, afterCheck, test}
 use Rattle.passes.specs.Slices.{Slices, roomOf, allKids, Tells}
+use Rattle.passes.specs.Follow.{partsAmong}
 
 module _ (bs : List ℕ) where
-  pub test-taken : (limit room count : ℕ) (σ : Slices) → refusal bs ≡ Good → count ≡ P bs → room ≡ roomOf σ
-      → passes (systemIn bs) limit room (upFrom 0 count) ≡ test bs limit (roomOf σ)
+  -- the list that a pass goes over
+  taking-is : (count : ℕ) (T R : Symbols) → refusal bs ≡ Good → count ≡ P bs → T ≡ ifWhole bs (treed (grammarOf bs))
+      → R ≡ ifWhole bs (reached (grammarOf bs) T) → partsAmong T R (grammarOf bs) (upFrom 0 count) ≡ taking (grammarOf bs)
+  unfolding taking
+  taking-is count T R h c t r =
+      rw (r ∙ valid-whole bs (valid bs h) _, t ∙ valid-whole bs (valid bs h) _, productions-many bs, c)
+
+  pub test-taken : (limit room count : ℕ) (T R : Symbols) (σ : Slices) → refusal bs ≡ Good → count ≡ P bs → room ≡ roomOf σ
+      → T ≡ ifWhole bs (treed (grammarOf bs)) → R ≡ ifWhole bs (reached (grammarOf bs) T)
+      → passes (systemIn bs) limit room (partsAmong T R (grammarOf bs) (upFrom 0 count)) ≡ test bs limit (roomOf σ)
   unfolding test afterCheck
-  test-taken limit room count σ h c r = rw (h, productions-many bs, c, r)
+  test-taken limit room count T R σ h c e t r = rw (h, taking-is count T R h c t r, e)
 
   pub test-refused : (limit room : ℕ) (b : Broken) → refusal bs ≡ Bad b → test bs limit room ≡ outcome (Refused b) noRoot empty 0
   unfolding test afterCheck

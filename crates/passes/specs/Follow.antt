@@ -6,11 +6,14 @@ use mathlib.Core.Path.{_≡_}
 use Prim.Native.Nat.{ℕ, _-_, _*_, _≤_, _<_}
 use lib.Dec.{eqb}
 use lib.ListN.{length, getD, take, drop, replicate}
-use Rattle.numbers.specs.Lists.{eachBelow, someBelow}
-use Rattle.grammar.specs.Grammar.{production, edgesOf}
+use Rattle.numbers.specs.Lists.{keep, eachBelow, someBelow}
+use Rattle.grammar.specs.declared.Production.{Production}
+use Rattle.grammar.specs.Grammar.{Grammar, production, edgesOf}
 use Rattle.grammar.specs.Table.{attributes, grammarOf}
 use Rattle.graph.specs.Rows.{own, hasCircle, rootGraph}
 use Rattle.graph.specs.Parts.{mostNodes}
+use Rattle.parts.specs.Sets.{Symbols}
+use Rattle.parts.specs.Rule.{takesPart}
 use Rattle.rules.specs.declared.Answer.{Answer}
 use Rattle.rules.specs.declared.Entry.{Entry}
 use Rattle.rules.specs.declared.Report.{Report}
@@ -83,20 +86,17 @@ systemBy k rows =
       circle = λ p gs. hasCircle (closedOver rows gs);
     }
 
--- the turn of the production p of a table, where `first` entries are stored
-unfoldable pub taskOf : List ℕ → ℕ → ℕ → ℕ → Task
-taskOf bs p room first =
-    record {
-      number = p;
-      symbol = production (grammarOf bs) p .left;
-      count = production (grammarOf bs) p .n;
-      rights = production (grammarOf bs) p .slots;
-      room = room;
-      first = first;
-    }
+-- the turn of a production by its number, where `first` entries are stored
+unfoldable pub taskOf : ℕ → Production → ℕ → ℕ → Task
+taskOf number p room first =
+    record { number = number; symbol = p .left; count = p .n; rights = p .slots; room = room; first = first }
 
 unfoldable pub ownOf : List ℕ → ℕ → List ℕ
 ownOf bs p = own attributes (edgesOf (grammarOf bs) p) (replicate mostNodes 0)
+
+-- the productions of a list that take part, by the two sets
+abbrev pub partsAmong : Symbols → Symbols → Grammar → List ℕ → List ℕ
+partsAmong treed reached g ps = keep (λ p. takesPart treed reached (production g p)) ps
 
 -- each combination behind the numbers that are chosen already
 unfoldable pub under : List ℕ → List (List ℕ) → List (List ℕ)

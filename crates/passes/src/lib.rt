@@ -1,18 +1,22 @@
 // The circularity test: the passes over four parallel lent slices of numbers.
 ghost use mathlib.Core.Path.{_≡_};
+ghost use mathlib.Core.List.{[], _∷_};
 ghost use Prim.Native.Nat.{_-_, _≤_, _<_};
 ghost use lib.ListN.{length, set};
 ghost use Rattle.numbers.specs.Lists.{upFrom};
 ghost use Rattle.grammar.specs.declared.Checked.the-variants.{Good};
-ghost use Rattle.grammar.specs.Table.{P};
+ghost use Rattle.grammar.specs.Grammar.{production};
+ghost use Rattle.grammar.specs.Table.{P, grammarOf};
 ghost use Rattle.grammar.specs.Refusal.{refusal};
 ghost use Rattle.rules.specs.Passes as stated;
 ghost use Rattle.rules.specs.Test.{systemIn};
 ghost use Rattle.passes.specs.Slices.{lent, atEntry, atExit, roomOf, Tells, Tested, entriesTo};
-ghost use Rattle.passes.specs.Follow.{reportOf, Follows, Roomy, InTurn, Picked, systemBy, taskOf, ownOf, combosFrom, occursIn, allIn};
+ghost use Rattle.passes.specs.Follow.{reportOf, Follows, Roomy, InTurn, Picked, systemBy, taskOf, ownOf, combosFrom, occursIn, allIn, partsAmong};
 use grammar::Checked;
 use grammar::NODES;
+use grammar::Production;
 use grammar::SLOTS;
+use parts::WORDS;
 use rules::Answer;
 use rules::Report;
 use steps::Course;
@@ -118,12 +122,11 @@ fn all_occur(symbols: &[u16], task: Task) -> bool
     true
 }
 
-// The task of a turn of the production `number`.
-fn task_of(table: &[u8], number: usize, room: usize, first: usize) -> Task
-    requires { ⌜ (refusal (now table) ≡ Good) × (number < P (now table)) ⌝ }
-    ensures { λ r. ⌜ r ≡ taskOf (now (table .entry)) number room first ⌝ }
+// The task of a turn of a production, which has the number `number`.
+fn task_of(number: usize, production: Production, room: usize, first: usize) -> Task
+    requires { ⌜ number < 512 ⌝ }
+    ensures { λ r. ⌜ r ≡ taskOf number production room first ⌝ }
 {
-    let production = tables::production_of(table, number);
     let rights = production.slots;
     let count = numbers::wide(production.n);
     Task {
@@ -145,10 +148,13 @@ fn own_of(table: &[u8], number: usize) -> [u64; NODES]
     closures::own_rows(run)
 }
 
-// One turn. Where a right symbol has no entry it ends at once; else the production's own rows are made, once.
+// One turn, if the production takes part. Where a right symbol has no entry it ends at once, whether it does or not; else the production's
+// own rows are made, once.
 fn turn(
     table: &[u8],
     number: usize,
+    treed: &[u64; WORDS],
+    reached: &[u64; WORDS],
     symbols: &mut [u16],
     graphs: &mut [u64],
     productions: &mut [u16],
@@ -157,12 +163,17 @@ fn turn(
     run: Run,
 ) -> Run
     requires { ⌜ (refusal (now table) ≡ Good) × (number < P (now table)) × Roomy room (lent symbols graphs productions kids) run × (run .course ≡ Course.Going) ⌝ }
-    ensures { λ r. ⌜ Follows room (λ limit. stated.turn (systemIn (now (table .entry))) limit room number)
+    ensures { λ r. ⌜ Follows room (λ limit. stated.pass (systemIn (now (table .entry))) limit room
+        (partsAmong (now (treed .entry)) (now (reached .entry)) (grammarOf (now (table .entry))) (number ∷ [])))
         (atEntry symbols graphs productions kids) run
         (atExit symbols graphs productions kids) r ⌝ }
 {
-    let task = task_of(table, number, room, run.stored);
+    let production = tables::production_of(table, number);
+    let task = task_of(number, production, room, run.stored);
     if !all_occur(symbols, task) {
+        return run;
+    }
+    if !walks::takes_part(production, treed, reached) {
         return run;
     }
     let own = own_of(table, number);
@@ -179,10 +190,12 @@ fn turn(
     )
 }
 
-// One pass: the productions by number.
+// One pass: the productions that take part, by number.
 fn pass(
     table: &[u8],
     count: usize,
+    treed: &[u64; WORDS],
+    reached: &[u64; WORDS],
     symbols: &mut [u16],
     graphs: &mut [u64],
     productions: &mut [u16],
@@ -191,7 +204,8 @@ fn pass(
     run: Run,
 ) -> Run
     requires { ⌜ (refusal (now table) ≡ Good) × (count ≡ P (now table)) × Roomy room (lent symbols graphs productions kids) run ⌝ }
-    ensures { λ r. ⌜ Follows room (λ limit. stated.pass (systemIn (now (table .entry))) limit room (upFrom 0 count))
+    ensures { λ r. ⌜ Follows room (λ limit. stated.pass (systemIn (now (table .entry))) limit room
+        (partsAmong (now (treed .entry)) (now (reached .entry)) (grammarOf (now (table .entry))) (upFrom 0 count)))
         (atEntry symbols graphs productions kids) run
         (atExit symbols graphs productions kids) r ⌝ }
 {
@@ -201,7 +215,18 @@ fn pass(
         if let Course::Stopped(_) = course {
             return now;
         }
-        now = turn(table, number, symbols, graphs, productions, kids, room, now);
+        now = turn(
+            table,
+            number,
+            treed,
+            reached,
+            symbols,
+            graphs,
+            productions,
+            kids,
+            room,
+            now,
+        );
     }
     now
 }
@@ -224,6 +249,8 @@ fn ended(answer: Answer, root: [u16; SLOTS], limit: u32, run: Run, begun: u16) -
 fn passes(
     table: &[u8],
     count: usize,
+    treed: &[u64; WORDS],
+    reached: &[u64; WORDS],
     symbols: &mut [u16],
     graphs: &mut [u64],
     productions: &mut [u16],
@@ -232,7 +259,8 @@ fn passes(
     limit: u32,
 ) -> Report
     requires { ⌜ (refusal (now table) ≡ Good) × (count ≡ P (now table)) × (room ≡ roomOf (lent symbols graphs productions kids)) ⌝ }
-    ensures { λ r. ⌜ Tells (stated.passes (systemIn (now (table .entry))) limit room (upFrom 0 count))
+    ensures { λ r. ⌜ Tells (stated.passes (systemIn (now (table .entry))) limit room
+        (partsAmong (now (treed .entry)) (now (reached .entry)) (grammarOf (now (table .entry))) (upFrom 0 count)))
         (atEntry symbols graphs productions kids) r
         (atExit symbols graphs productions kids) ⌝ }
 {
@@ -241,7 +269,18 @@ fn passes(
     loop {
         let before = now.stored;
         begun += 1;
-        now = pass(table, count, symbols, graphs, productions, kids, room, now);
+        now = pass(
+            table,
+            count,
+            treed,
+            reached,
+            symbols,
+            graphs,
+            productions,
+            kids,
+            room,
+            now,
+        );
         let course = now.course;
         if let Course::Stopped(answer) = course {
             let root = now.root;
@@ -279,9 +318,13 @@ pub fn test(
     let room = steps::room_of(symbols.len(), graphs.len(), productions.len(), kids.len());
     let header = tables::header_of(table);
     let count = numbers::wide(header.productions);
+    let treed = walks::treed_of(table);
+    let reached = walks::reached_of(table, &treed);
     passes(
         table,
         count,
+        &treed,
+        &reached,
         symbols,
         graphs,
         productions,

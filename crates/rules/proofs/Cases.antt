@@ -13,7 +13,7 @@ use Rattle.rules.specs.declared.Entry.{Entry}
 use Rattle.rules.specs.Passes.{numbered, numberOf, Outcome}
 use Rattle.rules.specs.Test.{test}
 use Rattle.rules.specs.Opened.{opened}
-use Rattle.rules.specs.Small.{tableA, tableB, tableC, tableD, tableR, tableQ}
+use Rattle.rules.specs.Small.{tableA, tableB, tableC, tableD, tableR, tableQ, tableSpare, tableEndless, tableBarren}
 
 -- a line of the table: the answer, the closures, the entries, the passes
 abbrev pub Line : Type 0
@@ -101,3 +101,12 @@ pub fastest :
     ∷ []
 unfolding opened tableQ
 fastest = refl
+
+-- what does not take part is not tried: a circular symbol that the start symbol does not reach; a production with a circle in its own edges,
+-- and with a right symbol that has no finite tree; a start symbol that has none, beside a circular symbol that has one
+pub skips :
+    _≡_ {A = List Line}
+    (line tableSpare 100 10 ∷ line tableEndless 100 10 ∷ line tableBarren 100 10 ∷ line tableBarren 0 0 ∷ [])
+    ((Noncircular, 2, 1, 2) ∷ (Noncircular, 2, 1, 2) ∷ (Noncircular, 0, 0, 1) ∷ (Noncircular, 0, 0, 1) ∷ [])
+unfolding opened tableSpare tableEndless tableBarren
+skips = refl

@@ -13,10 +13,11 @@ use Rattle.grammar.specs.Grammar.{production, rights}
 use Rattle.grammar.specs.Table.{P, grammarOf}
 use Rattle.grammar.specs.Refusal.{refusal}
 use Rattle.grammar.proofs.Lookups.{slots-seven}
+use Rattle.parts.specs.Rule.{taking}
 use Rattle.rules.specs.declared.Answer.the-variants.{Noncircular}
 use Rattle.rules.specs.declared.Entry.{Entry}
 use Rattle.rules.specs.Passes.{System, State, Ran, going, stopped, andThen, seven, noRoot, candidates, prefixed, combinations, stopIf, goOnIf, try, tries, turn, pass, Outcome, outcome, after, empty, passesFrom, passes}
-use Rattle.rules.specs.Test.{systemOf, systemIn, byNumber, afterCheck, test}
+use Rattle.rules.specs.Test.{systemOf, systemIn, afterCheck, test}
 use Rattle.rules.proofs.Steps.{byTests}
 
 -- ---- every combination has a number for each right symbol
@@ -151,6 +152,6 @@ module _ (bs : List ℕ) where
       nothing : Sound room []
       nothing = record { fits = zero-le; slots = tt }
 
-      go : (c : Checked) → Counted room (afterCheck c (passes (systemIn bs) limit room (byNumber (grammarOf bs))))
-      go Good = counted-passes (systemIn bs) limit room few-rights (suc room) (byNumber (grammarOf bs)) 0 empty nothing
+      go : (c : Checked) → Counted room (afterCheck c (passes (systemIn bs) limit room (taking (grammarOf bs))))
+      go Good = counted-passes (systemIn bs) limit room few-rights (suc room) (taking (grammarOf bs)) 0 empty nothing
       go (Bad b) = record { count = refl; sound = nothing }

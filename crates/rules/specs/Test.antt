@@ -1,13 +1,12 @@
 -- The circularity test: from the bytes of a table, the closure limit and the room to what comes back. Assumes nothing.
 use mathlib.Core.List.{List}
 use Prim.Native.Nat.{ℕ}
-use lib.ListN.{length}
-use Rattle.numbers.specs.Lists.{upFrom}
 use Rattle.grammar.specs.declared.Checked.{Checked}
 use Rattle.grammar.specs.declared.Checked.the-variants.{Good, Refused as Bad}
 use Rattle.grammar.specs.Grammar.{Grammar, production, rights, edgesOf}
 use Rattle.grammar.specs.Table.{widthOf, grammarOf}
 use Rattle.grammar.specs.Refusal.{refusal}
+use Rattle.parts.specs.Rule.{taking}
 use Rattle.graph.specs.Rows.{compound, closure, hasCircle, rootGraph}
 use Rattle.rules.specs.declared.Answer.the-variants.{Refused}
 use Rattle.rules.specs.Passes.{System, Outcome, outcome, noRoot, empty, passes}
@@ -29,14 +28,11 @@ systemOf w g =
 abbrev pub systemIn : List ℕ → System
 systemIn bs = systemOf (widthOf bs) (grammarOf bs)
 
--- a pass takes the productions by number
-abbrev pub byNumber : Grammar → List ℕ
-byNumber g = upFrom 0 (length (g .productions))
-
 -- a bad table is refused: nothing is counted and nothing is stored
 unfoldable pub afterCheck : Checked → Outcome → Outcome
 afterCheck Good o = o
 afterCheck (Bad b) o = outcome (Refused b) noRoot empty 0
 
+-- a pass goes over the productions that take part, by number
 unfoldable pub test : List ℕ → ℕ → ℕ → Outcome
-test bs limit room = afterCheck (refusal bs) (passes (systemIn bs) limit room (byNumber (grammarOf bs)))
+test bs limit room = afterCheck (refusal bs) (passes (systemIn bs) limit room (taking (grammarOf bs)))

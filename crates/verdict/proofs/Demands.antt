@@ -1,11 +1,9 @@
 -- The demands, proved. Assumes nothing.
 use mathlib.Core.Path.{_≡_, refl, sym, ap, _∙_, subst, subst₂}
-use mathlib.Core.Bool.{Bool, cond}
 use mathlib.Core.List.{List}
 use mathlib.Core.Logic.{_⊎_, inl, inr}
-use Prim.Native.Nat.{ℕ, zero, suc, _<_}
+use Prim.Native.Nat.{ℕ}
 use native.Mathlib.Omega.{arith}
-use lib.Dec.{eqb, eqb·suc-zero}
 use lib.ListN.{length}
 use Rattle.grammar.specs.Grammar.{Grammar}
 use Rattle.grammar.specs.Table.{widthOf, grammarOf}
@@ -18,18 +16,20 @@ use Rattle.trees.specs.Evaluator.{Evaluator}
 use Rattle.trees.specs.Record as record-of-trees
 use Rattle.trees.proofs.Saturation.{none-circular}
 use Rattle.trees.proofs.Evaluators as evaluators
+use Rattle.trees.proofs.Starts.{from-complete, circle-inside, circle-from-start, from-root}
+use Rattle.parts.specs.Rule.{taking}
+use Rattle.parts.specs.Exactly.{Found}
 use Rattle.grammar.specs.declared.Broken.{Broken}
 use Rattle.grammar.specs.declared.Checked.{Checked}
 use Rattle.grammar.specs.declared.Checked.the-variants.{Good, Refused as Bad}
 use Rattle.rules.specs.declared.Answer.{Answer}
 use Rattle.rules.specs.declared.Answer.the-variants.{Noncircular, Circular, Refused, OutOfSteps, OutOfRoom}
-use Rattle.rules.specs.Passes.{Outcome, outcome, entry, noRoot, empty, numbered, passes}
-use Rattle.rules.specs.Test.{systemIn, byNumber, afterCheck, test}
+use Rattle.rules.specs.Passes.{Outcome, outcome, entry, noRoot, empty, pass, passesFrom, passes}
+use Rattle.rules.specs.Test.{systemIn, afterCheck, test}
 use Rattle.orders.specs.Answers as runs
-use Rattle.orders.specs.Stored.{In}
 use Rattle.orders.proofs.Answers as runs-shown
-use Rattle.verdict.specs.Demands.{back, said, answer, NoRuleBroken, HasCircle, told, entryTree, shownTree, RefusedExactlyAlways, EntryShown, EntriesShownAlways, CircularShown, CircularShownAlways, NoncircularNoneAlways, LimitsKept, LimitsKeptAlways, StepsExactly, StepsExactlyAlways, RoomExactly, RoomExactlyAlways, RoomCounts, RoomCountsAlways, playEnd, Finishes, NeverStillAlways, GetsStuck, StandsStillLeftAlways, PassesFollowed}
-use Rattle.verdict.proofs.Obeys.{obeys}
+use Rattle.verdict.specs.Demands.{back, said, answer, NoRuleBroken, TreeOf, StartTree, HasCircle, SomeCircle, told, entryTree, shownTree, RefusedExactlyAlways, EntryShown, EntriesShownAlways, CircularShown, CircularShownAlways, NoncircularNoneAlways, NothingTriedAlways, LimitsKept, LimitsKeptAlways, StepsExactly, StepsExactlyAlways, RoomExactly, RoomExactlyAlways, RoomCounts, RoomCountsAlways, playEnd, Finishes, NeverStill, NeverStillAlways, GetsStuck, StandsStillLeft, StandsStillLeftAlways, StandsStillAboveAlways, PassesFollowed}
+use Rattle.verdict.proofs.Obeys.{obeys, exact}
 use Rattle.verdict.proofs.Trees.{entry-shows, low, earlier, again, root-complete, root-circle, root-earlier, saturated}
 use Rattle.verdict.proofs.Words.{graph-of, tree-pair, of-tree}
 use Rattle.verdict.proofs.Room.{stored-once, stored-pairs, pairs-stored, no-more, one-more}
@@ -44,7 +44,7 @@ case OutOfRoom = 4
 
 module _ (bs : List ℕ) where
   abbrev ran : ℕ → ℕ → Outcome
-  ran limit room = passes (systemIn bs) limit room (byNumber (grammarOf bs))
+  ran limit room = passes (systemIn bs) limit room (taking (grammarOf bs))
 
   -- either the passes are run, or the table breaks a rule
   taken : refusal bs ≡ Good → (limit room : ℕ) → back bs limit room ≡ ran limit room
@@ -78,10 +78,10 @@ module _ (bs : List ℕ) where
       go (inr (k, b)) = absurd (n (ap case (sym h) ∙ ap (λ (o : Outcome). case (o .report .answer)) (refused k b limit room)))
 
   module _ (good : refusal bs ≡ Good) where
-    pub sound : (limit room : ℕ) → runs.Sound (systemIn bs) (In (byNumber (grammarOf bs))) limit room (back bs limit room)
+    pub sound : (limit room : ℕ) → runs.Sound (systemIn bs) (Found (grammarOf bs)) limit room (back bs limit room)
     sound limit room =
-        subst (runs.Sound (systemIn bs) (In (byNumber (grammarOf bs))) limit room) (sym (taken good limit room))
-        (runs-shown.outcome-sound (systemIn bs) (byNumber (grammarOf bs)) limit room)
+        subst (runs.Sound (systemIn bs) (Found (grammarOf bs)) limit room) (sym (taken good limit room))
+        (runs-shown.outcome-sound (systemIn bs) (taking (grammarOf bs)) limit room)
 
 -- ---- demand 1
 pub refused-exactly : RefusedExactlyAlways back
@@ -91,13 +91,13 @@ refused-exactly bs limit room k = record {
 }
   where
     sound-answer : refusal bs ≡ Good
-        → runs.Says (systemIn bs) (In (byNumber (grammarOf bs))) limit room (ran bs limit room) (said (ran bs limit room))
-    sound-answer e = runs-shown.outcome-sound (systemIn bs) (byNumber (grammarOf bs)) limit room .says
+        → runs.Says (systemIn bs) (Found (grammarOf bs)) limit room (ran bs limit room) (said (ran bs limit room))
+    sound-answer e = runs-shown.outcome-sound (systemIn bs) (taking (grammarOf bs)) limit room .says
 
     go : answer bs limit room ≡ Refused k → (refusal bs ≡ Good) ⊎ ((j : Broken) × Breaks bs j) → Breaks bs k
     go h (inl e) =
         absurd
-        (subst (runs.Says (systemIn bs) (In (byNumber (grammarOf bs))) limit room (ran bs limit room))
+        (subst (runs.Says (systemIn bs) (Found (grammarOf bs)) limit room (ran bs limit room))
         (ap said (sym (taken bs e limit room)) ∙ h) (sound-answer e))
     go h (inr (j, b)) =
         let q : Refused j ≡ Refused k = ap said (sym (refused bs j b limit room)) ∙ h in
@@ -114,13 +114,15 @@ entries-shown bs limit room k l = go (either bs)
         let o = obeys bs good in
         let es = back bs limit room .entries in
         let s = sound bs good limit room in
-        let h = entry-shows (widthOf bs) g (o .0) (o .1) es (s .made) k l in
+        let h = entry-shows (widthOf bs) g (o .0) (o .1) (Found g) es (s .made) k l in
+        let from = exact bs good .subtrees (entryTree bs (back bs limit room) k) .0 (h .complete) in
         record {
-          complete = h .complete;
+          complete = from-complete g (entryTree bs (back bs limit room) k) from;
+          from-start = from;
           symbol = h .symbol;
-          graph = graph-of bs (entryTree bs (back bs limit room) k) (entry es k .graph) (low (widthOf bs) g (o .0) (o .1) es (s .made) k l) (h .is-graph);
-          earlier = earlier (widthOf bs) g (o .0) (o .1) es (s .made) k l;
-          again = again (widthOf bs) g (o .0) (o .1) es (s .made) k l;
+          graph = graph-of bs (entryTree bs (back bs limit room) k) (entry es k .graph) (low (widthOf bs) g (o .0) (o .1) (Found g) es (s .made) k l) (h .is-graph);
+          earlier = earlier (widthOf bs) g (o .0) (o .1) (Found g) es (s .made) k l;
+          again = again (widthOf bs) g (o .0) (o .1) (Found g) es (s .made) k l;
         }
     go (inr (j, b)) = absurd (omega (arith, ap (λ (o : Outcome). length (o .entries)) (refused bs j b limit room)))
 
@@ -132,27 +134,41 @@ circular-shown bs limit room p h =
     let es = back bs limit room .entries in
     let slots = back bs limit room .report .root in
     let s = sound bs good limit room in
-    let root = subst (runs.Says (systemIn bs) (In (byNumber g)) limit room (back bs limit room)) h (s .says) in
+    let root = subst (runs.Says (systemIn bs) (Found g) limit room (back bs limit room)) h (s .says) in
+    let complete = root-complete (widthOf bs) g (o .0) (o .1) (Found g) es (s .made) p slots root in
+    let from = exact bs good .subtrees (shownTree bs (back bs limit room) p) .0 complete in
     record {
-      complete = root-complete (widthOf bs) g (o .0) (o .1) es (s .made) p slots root;
-      circle = root-circle (widthOf bs) g (o .0) (o .1) es (s .made) p slots root;
-      earlier = root-earlier (widthOf bs) g (o .0) (o .1) es (s .made) p slots root;
+      complete = from-complete g (shownTree bs (back bs limit room) p) from;
+      from-start = from;
+      circle = root-circle (widthOf bs) g (o .0) (o .1) (Found g) es (s .made) p slots root;
+      earlier = root-earlier (widthOf bs) g (o .0) (o .1) (Found g) es (s .made) p slots root;
     }
 
--- after noncircular the store has every tree
+-- after noncircular the store has every tree of productions that take part
 full : (bs : List ℕ) (limit room : ℕ) → answer bs limit room ≡ Noncircular
-    → record-of-trees.Saturated (grammarOf bs) (NumberHolds (widthOf bs)) (InTable (grammarOf bs)) (told (grammarOf bs) (back bs limit room .entries))
+    → record-of-trees.Saturated (grammarOf bs) (NumberHolds (widthOf bs)) (Found (grammarOf bs)) (told (grammarOf bs) (back bs limit room .entries))
     (length (back bs limit room .entries))
 full bs limit room h =
     let good = not-refused bs limit room Noncircular h (λ e. omega arith) in
     let s = sound bs good limit room in
-    saturated (widthOf bs) (grammarOf bs) (obeys bs good .0) (obeys bs good .1) (back bs limit room .entries)
-    (subst (runs.Says (systemIn bs) (In (byNumber (grammarOf bs))) limit room (back bs limit room)) h (s .says) .0)
+    saturated (widthOf bs) (grammarOf bs) (obeys bs good .0) (obeys bs good .1) (Found (grammarOf bs)) (back bs limit room .entries)
+    (subst (runs.Says (systemIn bs) (Found (grammarOf bs)) limit room (back bs limit room)) h (s .says) .0)
 
 pub noncircular-none : NoncircularNoneAlways back
-noncircular-none bs limit room h =
-    none-circular (grammarOf bs) (NumberHolds (widthOf bs)) (InTable (grammarOf bs)) (told (grammarOf bs) (back bs limit room .entries))
+noncircular-none bs limit room h c =
+    none-circular (grammarOf bs) (NumberHolds (widthOf bs)) (Found (grammarOf bs)) (told (grammarOf bs) (back bs limit room .entries))
     (length (back bs limit room .entries)) (full bs limit room h)
+    (exact bs (not-refused bs limit room Noncircular h (λ e. omega arith)) .circular .1 c)
+
+-- and after circular some tree from the start symbol has a circle: the one that has the shown tree at some address
+pub some-circle : (bs : List ℕ) (p : ℕ) (o : Outcome) → CircularShown bs p o → SomeCircle bs
+some-circle bs p o c = circle-from-start (grammarOf bs) (shownTree bs o p) (c .from-start) (c .circle)
+
+pub start-without-tree : NothingTriedAlways back
+unfolding pass passesFrom passes
+start-without-tree bs limit room unbroken none =
+    let good = when-unbroken bs unbroken in
+    taken bs good limit room ∙ rw (exact bs good .nothing none)
 
 pub limits-kept : LimitsKeptAlways back
 limits-kept bs limit R = go (either bs)
@@ -160,7 +176,7 @@ limits-kept bs limit R = go (either bs)
     go : (refusal bs ≡ Good) ⊎ ((k : Broken) × Breaks bs k) → LimitsKept limit R (back bs limit R)
     go (inl e) =
         let s = sound bs e limit R in
-        let says = runs.Says (systemIn bs) (In (byNumber (grammarOf bs))) limit R (back bs limit R) in
+        let says = runs.Says (systemIn bs) (Found (grammarOf bs)) limit R (back bs limit R) in
         record {
           closures = s .closures;
           entries = s .entries;
@@ -183,7 +199,7 @@ steps-exactly bs L M room lt = go (either bs)
   where
     go : (refusal bs ≡ Good) ⊎ ((k : Broken) × Breaks bs k) → StepsExactly bs L M room (back bs L room)
     go (inl e) =
-        let x = runs-shown.steps-exactly (systemIn bs) (byNumber (grammarOf bs)) L M room lt in
+        let x = runs-shown.steps-exactly (systemIn bs) (taking (grammarOf bs)) L M room lt in
         let y = subst₂ (runs.StepsCompared L) (sym (taken bs e L room)) (sym (taken bs e M room)) x in
         record { exactly = y .exactly; else = y .else }
     go (inr (k, b)) =
@@ -204,10 +220,10 @@ room-exactly bs limit l R S lt low high = go (either bs)
     go (inl e) =
         let W = systemIn bs in
         let c = ap (λ (o : Outcome). o .report .closures) (taken bs e limit R) in
-        let x = runs-shown.room-exactly W (byNumber (grammarOf bs)) limit R S l lt (omega arith) high in
+        let x = runs-shown.room-exactly W (taking (grammarOf bs)) limit R S l lt (omega arith) high in
         let y = subst₂ (runs.RoomCompared R) (sym (taken bs e limit R)) (sym (taken bs e l S)) x in
-        let s = runs-shown.outcome-sound W (byNumber (grammarOf bs)) limit R in
-        let u = runs-shown.room-exactly W (byNumber (grammarOf bs)) limit R S limit lt (s .closures) (omega arith) in
+        let s = runs-shown.outcome-sound W (taking (grammarOf bs)) limit R in
+        let u = runs-shown.room-exactly W (taking (grammarOf bs)) limit R S limit lt (s .closures) (omega arith) in
         let v = subst₂ (runs.RoomCompared R) (sym (taken bs e limit R)) (sym (taken bs e limit S)) u in
         record { exactly = y .exactly; else = v .else }
     go (inr (k, b)) =
@@ -227,17 +243,17 @@ room-counts bs limit R unbroken calm enough = go (answer bs limit R) refl (s .sa
     good : refusal bs ≡ Good
     good = when-unbroken bs unbroken
 
-    s : runs.Sound (systemIn bs) (In (byNumber (grammarOf bs))) limit R (back bs limit R)
+    s : runs.Sound (systemIn bs) (Found (grammarOf bs)) limit R (back bs limit R)
     s = sound bs good limit R
 
     go : (a : Answer) → answer bs limit R ≡ a
-        → runs.Says (systemIn bs) (In (byNumber (grammarOf bs))) limit R (back bs limit R) a
+        → runs.Says (systemIn bs) (Found (grammarOf bs)) limit R (back bs limit R) a
         → RoomCounts bs R (back bs limit R)
     go Noncircular h says =
         let g = grammarOf bs in
         let es = back bs limit R .entries in
         let o = obeys bs good in
-        let full = saturated (widthOf bs) g (o .0) (o .1) es (says .0) in
+        let full = saturated (widthOf bs) g (o .0) (o .1) (Found g) es (says .0) in
         record {
           exactly = (
             λ k. absurd (let z : _≡_ {A = ℕ} 0 4 = ap case (sym h ∙ k) in omega arith),
@@ -247,18 +263,16 @@ room-counts bs limit R unbroken calm enough = go (answer bs limit R) refl (s .sa
                   arith,
                   m .2,
                   s .entries,
-                  no-more (widthOf bs) g (o .0) (o .1) es (s .made) (s .different) full (m .0) (m .1) (λ q k. of-tree bs q (m .3 q k)),
+                  no-more (widthOf bs) g (o .0) (o .1) (Found g) es (s .made) (s .different) full (m .0) (m .1) (λ q k. of-tree bs (exact bs good) q (m .3 q k)),
                 )),
           );
-          once = stored-once (widthOf bs) g (o .0) (o .1) es (s .made) (s .different);
+          once = stored-once (widthOf bs) g (o .0) (o .1) (Found g) es (s .made) (s .different);
           those = λ _ q. (
-            λ m. tree-pair bs _ (stored-pairs (widthOf bs) g (o .0) (o .1) es (s .made) (s .different) _ m),
-            λ m. pairs-stored (widthOf bs) g (o .0) (o .1) es (s .made) (s .different) full _ (of-tree bs _ m),
+            λ m. tree-pair bs (exact bs good) _ (stored-pairs (widthOf bs) g (o .0) (o .1) (Found g) es (s .made) (s .different) _ m),
+            λ m. pairs-stored (widthOf bs) g (o .0) (o .1) (Found g) es (s .made) (s .different) full _ (of-tree bs (exact bs good) _ m),
           );
         }
-    go (Circular p) h says =
-        let c = circular-shown bs limit R p h in
-        absurd (calm (shownTree bs (back bs limit R) p, c .complete, c .circle))
+    go (Circular p) h says = absurd (calm (some-circle bs p (back bs limit R) (circular-shown bs limit R p h)))
     go (Refused k) h says = absurd says
     go OutOfSteps h says = absurd (enough h)
     go OutOfRoom h says =
@@ -266,21 +280,21 @@ room-counts bs limit R unbroken calm enough = go (answer bs limit R) refl (s .sa
         let es = back bs limit R .entries in
         let o = obeys bs good in
         let x = says .1 in
-        let l = one-more (widthOf bs) g (o .0) (o .1) es (s .made) (s .different) (x .extra) (x .made) (x .new) in
+        let l = one-more (widthOf bs) g (o .0) (o .1) (Found g) es (s .made) (s .different) (x .extra) (x .made) (x .new) in
         record {
-          exactly = (λ _. (l .0, l .1, omega (arith, l .2, says .0), λ q k. tree-pair bs q (l .3 q k)), λ _. h);
-          once = stored-once (widthOf bs) g (o .0) (o .1) es (s .made) (s .different);
+          exactly = (λ _. (l .0, l .1, omega (arith, l .2, says .0), λ q k. tree-pair bs (exact bs good) q (l .3 q k)), λ _. h);
+          once = stored-once (widthOf bs) g (o .0) (o .1) (Found g) es (s .made) (s .different);
           those = λ n. absurd (n h);
         }
 
 -- ---- demand 3
 pub never-still : NeverStillAlways back
-never-still bs limit room h t w = record {
+never-still bs limit room h t below = record {
   some = evaluators.evaluator g t;
   each = λ ev. finishes _;
-  goes-on = λ c. evaluators.never-still g formed (InTable g) t w none _;
+  goes-on = λ c. evaluators.never-still g formed (InTable g) t complete none _;
   counts = λ {n} {d} r. evaluators.takings g t r;
-  all-computed = λ {n} {d} r s. evaluators.all-computed g formed (InTable g) t w none r s;
+  all-computed = λ {n} {d} r s. evaluators.all-computed g formed (InTable g) t complete none r s;
 }
   where
     g : Grammar
@@ -289,46 +303,60 @@ never-still bs limit room h t w = record {
     formed : WellFormed (grammarOf bs)
     formed = obeys bs (not-refused bs limit room Noncircular h (λ e. omega arith)) .0
 
+    complete : TreeOf bs t
+    complete = from-complete g t below
+
     none : ¬ HasCircle bs t
-    none c = noncircular-none bs limit room h (t, w, c)
+    none c = noncircular-none bs limit room h (circle-from-start g t below c)
 
     finishes : (ev : Evaluator (grammarOf bs) t) → Finishes bs t ev
     finishes ev = record {
-      takes = evaluators.takes g formed (InTable g) t w none ev;
+      takes = evaluators.takes g formed (InTable g) t complete none ev;
       stops = evaluators.stops g t ev;
-      computes = evaluators.all-computed g formed (InTable g) t w none (playEnd bs t ev .way) (evaluators.stops g t ev) .1;
+      computes = evaluators.all-computed g formed (InTable g) t complete none (playEnd bs t ev .way) (evaluators.stops g t ev) .1;
     }
 
-pub stands-still : StandsStillLeftAlways back
-stands-still bs limit room p h = record {
+-- so on a tree from the start symbol
+pub never-still-start : (bs : List ℕ) (limit room : ℕ) → answer bs limit room ≡ Noncircular → (t : Tree) → StartTree bs t → NeverStill bs t
+never-still-start bs limit room h t r = never-still bs limit room h t (from-root (grammarOf bs) t r)
+
+-- on a tree with a circle
+still-left : (bs : List ℕ) → refusal bs ≡ Good → (t : Tree) → TreeOf bs t → HasCircle bs t → StandsStillLeft bs t
+still-left bs good t complete circle = record {
   some = evaluators.evaluator g t;
   each = λ ev. stuck _;
-  fewer = λ {n} {d} r. evaluators.fewer g formed (InTable g) t (c .complete) (c .circle) r;
-  left-over = λ {n} {d} r. evaluators.left-over g formed (InTable g) t (c .complete) r;
+  fewer = λ {n} {d} r. evaluators.fewer g formed (InTable g) t complete circle r;
+  left-over = λ {n} {d} r. evaluators.left-over g formed (InTable g) t complete r;
 }
   where
     g : Grammar
     g = grammarOf bs
 
     formed : WellFormed (grammarOf bs)
-    formed = obeys bs (not-refused bs limit room (Circular p) h (λ e. omega arith)) .0
-
-    t : Tree
-    t = shownTree bs (back bs limit room) p
-
-    c : CircularShown bs p (back bs limit room)
-    c = circular-shown bs limit room p h
+    formed = obeys bs good .0
 
     stuck : (ev : Evaluator (grammarOf bs) t) → GetsStuck bs t ev
     stuck ev =
-        let left = evaluators.left-over g formed (InTable g) t (c .complete) (playEnd bs t ev .way) in
-        let y = left (c .circle .0) (c .circle .1) in
+        let left = evaluators.left-over g formed (InTable g) t complete (playEnd bs t ev .way) in
+        let y = left (circle .0) (circle .1) in
         record {
           stops = evaluators.stops g t ev;
-          early = evaluators.fewer g formed (InTable g) t (c .complete) (c .circle) (playEnd bs t ev .way);
+          early = evaluators.fewer g formed (InTable g) t complete circle (playEnd bs t ev .way);
           circles-left = left;
-          one-left = (c .circle .0, y .0, y .1);
+          one-left = (circle .0, y .0, y .1);
         }
+
+pub stands-still : StandsStillLeftAlways back
+stands-still bs limit room p h =
+    let c = circular-shown bs limit room p h in
+    still-left bs (not-refused bs limit room (Circular p) h (λ e. omega arith)) (shownTree bs (back bs limit room) p)
+    (c .complete) (c .circle)
+
+pub stands-still-above : StandsStillAboveAlways back
+stands-still-above bs limit room p h t d rooted there =
+    let c = circular-shown bs limit room p h in
+    still-left bs (not-refused bs limit room (Circular p) h (λ e. omega arith)) t (rooted .complete)
+    (circle-inside (grammarOf bs) there (c .circle))
 
 -- ---- the rules themselves
 pub passes-followed : PassesFollowed back

@@ -1,21 +1,25 @@
--- Each demand at A, B and R: what it asks can be met. Assumes nothing.
+-- Each demand at A, B and R: what it asks can be met; and where the start symbol makes a difference. Assumes nothing.
 use mathlib.Core.Path.{_≡_, refl, subst}
-use mathlib.Core.List.{List, [], _∷_, List·Memᴰ}
+use mathlib.Core.List.{List, [], _∷_, List·Memᴰ, List·Memᴰ·head}
 use mathlib.Core.Logic.{_↔_}
-use Prim.Native.Nat.{ℕ}
+use Prim.Native.Nat.{ℕ, zero, suc}
 use native.Mathlib.Omega.{arith}
 use lib.ListN.{length, take, set}
 use Rattle.grammar.specs.Table.{grammarOf}
 use Rattle.grammar.specs.declared.Broken.the-variants.{Rule, Record}
 use Rattle.grammar.specs.Rules.{Breaks}
-use Rattle.trees.specs.Tree.{node, nil, cons, here}
+use Rattle.numbers.specs.Paths.{one, Circle}
+use Rattle.trees.specs.Tree.{Tree, node, Kids, nil, cons, rootSymbol, OneEach, InTable, here, at, Own, Joined}
+use Rattle.trees.specs.Address.{first, whole, down}
 use Rattle.trees.specs.Evaluator.{notGiven, Evaluator, play}
-use Rattle.trees.specs.Small.{grammarA, grammarB, grammarC}
+use Rattle.trees.specs.Small.{smallEdge, grammarA, grammarB, grammarC}
+use Rattle.trees.proofs.Starts.{circle-from-start}
 use Rattle.rules.specs.declared.Answer.the-variants.{Noncircular, Circular, Refused, OutOfSteps, OutOfRoom}
 use Rattle.rules.specs.Opened.{opened}
-use Rattle.rules.specs.Small.{tableA, tableB, tableC, tableR}
-use Rattle.verdict.specs.Demands.{back, answer, NoRuleBroken, TreeOf, PathIn, HasCircle, GraphOf, TreePair, entryTree, shownTree, NoncircularNone, MorePairs, storedPairs, NeverStill, StandsStillLeft}
-use Rattle.verdict.proofs.Demands.{refused-exactly, entries-shown, circular-shown, noncircular-none, steps-exactly, room-exactly, room-counts, never-still, stands-still}
+use Rattle.rules.specs.Passes.{outcome, noRoot, empty}
+use Rattle.rules.specs.Small.{tableA, tableB, tableC, tableR, tableSpare, tableEndless, tableBarren}
+use Rattle.verdict.specs.Demands.{back, answer, NoRuleBroken, TreeOf, StartTree, BelowStart, NoStartTree, PathIn, HasCircle, GraphOf, TreePair, entryTree, shownTree, NoncircularNone, MorePairs, storedPairs, NeverStill, StandsStillLeft}
+use Rattle.verdict.proofs.Demands.{refused-exactly, entries-shown, circular-shown, noncircular-none, start-without-tree, steps-exactly, room-exactly, room-counts, never-still, never-still-start, stands-still, stands-still-above}
 
 -- ---- the bytes of A, B and C are the grammars that the trees' samples have as records
 pub grammar-A : grammarOf tableA ≡ grammarA
@@ -111,12 +115,18 @@ path-A : PathIn tableA (node 1 nil) (here 0) (here 2)
 path-A = graph-of-entry-A .bits 0 2 (omega arith) (omega arith) .0 refl
 
 -- ---- demand 3 at A: an evaluator on production 0 over production 1 never stands still too early
-tree-A : TreeOf tableA (node 0 (cons (node 1 nil) nil))
+tree-A : StartTree tableA (node 0 (cons (node 1 nil) nil))
 unfolding opened tableA
-tree-A = (omega arith, (refl, (omega arith, tt), tt))
+tree-A = record { complete = (omega arith, (refl, (omega arith, tt), tt)); root = refl }
 
 goes-on-A : NeverStill tableA (node 0 (cons (node 1 nil) nil))
-goes-on-A = never-still tableA 10 3 noncircular-A (node 0 (cons (node 1 nil) nil)) tree-A
+goes-on-A = never-still-start tableA 10 3 noncircular-A (node 0 (cons (node 1 nil) nil)) tree-A
+
+-- nor on its subtree, production 1 by itself
+goes-on-leaf-A : NeverStill tableA (node 1 nil)
+goes-on-leaf-A =
+    never-still tableA 10 3 noncircular-A (node 1 nil)
+    (record { tree = node 0 (cons (node 1 nil) nil); rooted = tree-A; address = 0 ∷ []; there = down first whole })
 
 -- it has four values and none is given; where the symbol 1 is at the root, its two inherited values are
 not-given-A : notGiven (grammarOf tableA) (node 0 (cons (node 1 nil) nil)) ≡ 4
@@ -209,12 +219,12 @@ more-than-one : MorePairs tableR 1
 more-than-one =
     room-counts tableR 5 1 unbroken-R none-R (λ e. let z : _≡_ {A = ℕ} 0 1 = cc room-R in omega arith) .exactly .0 room-R
 
-tree-R : TreeOf tableR (node 1 (cons (node 0 nil) nil))
+tree-R : StartTree tableR (node 1 (cons (node 0 nil) nil))
 unfolding opened tableR
-tree-R = (omega arith, (refl, (omega arith, tt), tt))
+tree-R = record { complete = (omega arith, (refl, (omega arith, tt), tt)); root = refl }
 
 goes-on-R : NeverStill tableR (node 1 (cons (node 0 nil) nil))
-goes-on-R = never-still tableR 5 2 noncircular-R (node 1 (cons (node 0 nil) nil)) tree-R
+goes-on-R = never-still-start tableR 5 2 noncircular-R (node 1 (cons (node 0 nil) nil)) tree-R
 
 -- one byte less is refused by 3
 short-R : answer (take 67 tableR) 5 2 ≡ Refused (Rule 3)
@@ -223,3 +233,110 @@ short-R = refl
 
 offsets-R : Breaks (take 67 tableR) (Rule 3)
 offsets-R = refused-exactly (take 67 tableR) 5 2 (Rule 3) .exactly .0 short-R
+
+-- ---- a spare symbol: no tree from the start symbol has a circle
+noncircular-spare : answer tableSpare 2 1 ≡ Noncircular
+unfolding opened tableSpare
+noncircular-spare = refl
+
+pub none-spare : NoncircularNone tableSpare
+none-spare = noncircular-none tableSpare 2 1 noncircular-spare
+
+-- yet a finite complete tree rooted at the spare symbol has one
+tree-spare : TreeOf tableSpare (node 1 nil)
+unfolding opened tableSpare
+tree-spare = (omega arith, tt)
+
+circle-spare : HasCircle tableSpare (node 1 nil)
+unfolding opened tableSpare
+circle-spare =
+    (here 0, one (Joined.own (record { edge = smallEdge 1 0 0 0 0; among = List·Memᴰ·head refl; which = refl; from = refl; to = refl })))
+
+-- so of trees rooted at any symbol the demand would be false
+not-any-root : ¬ ((t : Tree) → TreeOf tableSpare t → ¬ HasCircle tableSpare t)
+not-any-root none = none (node 1 nil) tree-spare circle-spare
+
+-- the tree does not stand below the start symbol
+not-below-spare : ¬ BelowStart tableSpare (node 1 nil)
+not-below-spare f = none-spare (circle-from-start (grammarOf tableSpare) (node 1 nil) f circle-spare)
+
+-- and only the tree of production 0 has a pair to be stored
+stored-spare : storedPairs tableSpare (back tableSpare 2 1) ≡ (0, 0) ∷ []
+unfolding opened tableSpare
+stored-spare = refl
+
+pairs-spare : (q : ℕ × ℕ) → List·Memᴰ q ((0, 0) ∷ []) ↔ TreePair tableSpare q
+pairs-spare q =
+    subst (λ (l : List (ℕ × ℕ)). List·Memᴰ q l ↔ TreePair tableSpare q) stored-spare
+    (room-counts tableSpare 2 1 (when-noncircular tableSpare 2 1 noncircular-spare) none-spare
+    (λ e. let z : _≡_ {A = ℕ} 0 1 = cc noncircular-spare in omega arith) .those
+    (λ e. let z : _≡_ {A = ℕ} 0 1 = cc noncircular-spare in omega arith) q)
+
+-- where the start symbol does reach it, by 0 → 1 in place of 0 → nothing, the shown tree stands below the start symbol, and is not rooted there
+abbrev tableReached : List ℕ
+tableReached = set (set tableSpare 30 1) 32 1
+
+circular-reached : answer tableReached 1 0 ≡ Circular 1
+unfolding opened tableSpare
+circular-reached = refl
+
+shown-reached : shownTree tableReached (back tableReached 1 0) 1 ≡ node 1 nil
+unfolding opened tableSpare
+shown-reached = refl
+
+below-reached : BelowStart tableReached (node 1 nil)
+below-reached = subst (BelowStart tableReached) shown-reached (circular-shown tableReached 1 0 1 circular-reached .from-start)
+
+not-rooted-reached : ¬ StartTree tableReached (node 1 nil)
+unfolding opened tableSpare
+not-rooted-reached r = omega (arith, r .root)
+
+-- and an evaluator on the whole tree stands still too
+tree-reached : StartTree tableReached (node 0 (cons (node 1 nil) nil))
+unfolding opened tableSpare
+tree-reached = record { complete = (omega arith, (refl, (omega arith, tt), tt)); root = refl }
+
+still-reached : StandsStillLeft tableReached (node 0 (cons (node 1 nil) nil))
+unfolding opened tableSpare
+still-reached =
+    stands-still-above tableReached 1 0 1 circular-reached (node 0 (cons (node 1 nil) nil)) (0 ∷ []) tree-reached (down first whole)
+
+-- ---- a right symbol without a finite tree: its production has a circle in its own edges, and no tree from the start symbol has one
+noncircular-endless : answer tableEndless 2 1 ≡ Noncircular
+unfolding opened tableEndless
+noncircular-endless = refl
+
+none-endless : NoncircularNone tableEndless
+none-endless = noncircular-none tableEndless 2 1 noncircular-endless
+
+own-circle-endless : Circle (Own (grammarOf tableEndless) 0)
+unfolding opened tableEndless
+own-circle-endless =
+    (at 1 0, one (record { edge = smallEdge 0 1 0 1 0; among = List·Memᴰ·head refl; which = refl; from = refl; to = refl }))
+
+-- ---- a start symbol without a finite tree
+mutual
+  unfolding opened tableBarren
+
+  no-root-barren : (t : Tree) → TreeOf tableBarren t → ¬ (rootSymbol (grammarOf tableBarren) t ≡ 0)
+  no-root-barren (node zero ks) c e = no-kid-barren ks (c .1)
+  no-root-barren (node (suc zero) ks) c e = omega (arith, e)
+  no-root-barren (node (suc (suc p)) ks) c e = omega (arith, c .0)
+
+  no-kid-barren : (ks : Kids) → ¬ OneEach (grammarOf tableBarren) (InTable (grammarOf tableBarren)) ks (0 ∷ [])
+  no-kid-barren nil w = w
+  no-kid-barren (cons t ks) w = no-root-barren t (w .1) (w .0)
+
+pub no-tree-barren : NoStartTree tableBarren
+unfolding opened tableBarren
+no-tree-barren (t, r) = no-root-barren t (r .complete) (r .root)
+
+noncircular-barren : answer tableBarren 0 0 ≡ Noncircular
+unfolding opened tableBarren
+noncircular-barren = refl
+
+pub unbroken-barren : NoRuleBroken tableBarren
+unbroken-barren = when-noncircular tableBarren 0 0 noncircular-barren
+
+nothing-barren : back tableBarren 100 10 ≡ outcome Noncircular noRoot empty 1
+nothing-barren = start-without-tree tableBarren 100 10 unbroken-barren no-tree-barren

@@ -1,4 +1,4 @@
--- A table that is not refused is a grammar as the trees ask for it. Assumes nothing.
+-- What a table that is not refused gives: a grammar as the trees ask for it, and what takes part. Assumes nothing.
 use mathlib.Core.Path.{_≡_, sym, ap, _∙_}
 use mathlib.Core.List.{List, List·Memᴰ, Memᴰ·of-map}
 use Prim.Native.Nat.{ℕ, _+_, _*_}
@@ -12,6 +12,8 @@ use Rattle.grammar.specs.Refusal.{refusal}
 use Rattle.grammar.proofs.Lookups.{slots-many}
 use Rattle.grammar.proofs.Valid.{valid}
 use Rattle.trees.specs.Tree.{WellFormed, AtMost}
+use Rattle.parts.specs.Exactly.{Exactly}
+use Rattle.parts.proofs.Tables.{valid-exactly}
 
 -- a production of a table has seven slots
 slots-there : (bs : List ℕ) (p : Production) → List·Memᴰ p (grammarOf bs .productions) → length (p .slots) ≡ 7
@@ -29,3 +31,7 @@ obeys bs e =
       },
       λ s m. v .symbols s m .count,
     )
+
+-- the rule finds the productions that take part
+pub exact : (bs : List ℕ) → refusal bs ≡ Good → Exactly (grammarOf bs)
+exact bs e = valid-exactly bs (valid bs e)

@@ -19,7 +19,7 @@ use Rattle.passes.proofs.Told.{length-kids, entries-told}
 use Rattle.rows.proofs.Writing.{length-written}
 use Rattle.verdict.specs.Demands.{back, RoomExactly}
 use Rattle.verdict.specs.Program.{Stands, RestBefore, LongAsBefore, Demanded, Program}
-use Rattle.verdict.proofs.Demands.{refused-exactly, entries-shown, circular-shown, noncircular-none, limits-kept, steps-exactly, room-exactly, room-counts, never-still, stands-still}
+use Rattle.verdict.proofs.Demands.{refused-exactly, entries-shown, circular-shown, noncircular-none, start-without-tree, limits-kept, steps-exactly, room-exactly, room-counts, never-still, stands-still, stands-still-above}
 
 -- ---- read off the slices
 
@@ -125,12 +125,14 @@ demanded bs limit R o e = subst (Demanded bs limit R) (sym e) (record {
   entries = entries-shown bs limit R;
   circular = circular-shown bs limit R;
   noncircular = noncircular-none bs limit R;
+  start-without-tree = start-without-tree bs limit R;
   limits = limits-kept bs limit R;
   steps = λ M l. steps-exactly bs limit M R l;
   room = λ l S. room-exactly bs limit l R S;
   room-counts = room-counts bs limit R;
   never-still = never-still bs limit R;
   stands-still = stands-still bs limit R;
+  stands-still-above = stands-still-above bs limit R;
 })
 
 -- so after any answer more room can be asked about: with the closures that were made, or with the limit

@@ -1,36 +1,26 @@
 -- From what the passes store to trees: each entry is derived, a circular root has a circle, a saturated store has every tree. Over the
--- number w of attributes, for any outcome that is sound. Assumes nothing.
+-- number w of attributes and the productions that take part, for any outcome that is sound. Assumes nothing.
 use mathlib.Core.Path.{_≡_, sym, _∙_, subst}
 use mathlib.Core.Bool.{true≢false}
 use mathlib.Core.List.{List, List·Memᴰ}
 use Prim.Native.Nat.{ℕ, _*_, _^_, _<_}
-use native.Mathlib.Omega.{arith}
 use lib.ListN.{length}
 use Rattle.numbers.specs.Paths.{Circle}
 use Rattle.grammar.specs.Grammar.{Grammar, production, rights}
 use Rattle.graph.proofs.Root.{root-lt}
-use Rattle.trees.specs.Tree.{Complete, InTable, TreeEdge, WellFormed, AtMost}
+use Rattle.trees.specs.Tree.{Complete, TreeEdge, WellFormed, AtMost}
 use Rattle.trees.specs.Compound.{Makes, NumberHolds}
 use Rattle.trees.specs.Record as record-of-trees
 use Rattle.trees.specs.Record.{shownEntry, shown, Derived, Shows, OfTree}
-use Rattle.numbers.proofs.Members.{upFrom-at, upFrom-mem}
 use Rattle.trees.proofs.Shown.{fits-below, graphs-count, entry-shown, shown-complete, shown-graph, shown-circle, shown-again}
 use Rattle.rules.specs.declared.Entry.{Entry}
 use Rattle.rules.specs.Passes.{System, entry, graphs, counting}
-use Rattle.rules.specs.Test.{closed, systemOf, byNumber}
-use Rattle.orders.specs.Stored.{In, Combination, Made, Root, AllMade}
+use Rattle.rules.specs.Test.{closed, systemOf}
+use Rattle.orders.specs.Stored.{Combination, Made, Root, AllMade}
 use Rattle.verdict.specs.Demands.{told}
 use Rattle.verdict.proofs.Bridge.{circle-so, graph-so}
 
-module _ (g : Grammar) where
-  -- the productions by number are those of the table
-  pub in-table : (p : ℕ) → In (byNumber g) p → InTable g p
-  in-table p m = omega (arith, upFrom-mem 0 (length (g .productions)) m .1)
-
-  pub by-number : (p : ℕ) → InTable g p → In (byNumber g) p
-  by-number p h = upFrom-at 0 (length (g .productions)) p (omega arith) (omega arith)
-
-module _ (w : ℕ) (g : Grammar) (formed : WellFormed g) (few : AtMost w g) where
+module _ (w : ℕ) (g : Grammar) (formed : WellFormed g) (few : AtMost w g) (Part : ℕ → Type 0) where
   abbrev W : System
   W = systemOf w g
 
@@ -39,7 +29,7 @@ module _ (w : ℕ) (g : Grammar) (formed : WellFormed g) (few : AtMost w g) wher
   counted es n p c f = graphs-count g formed (told g es) n p c f
 
   -- what is made of entries: the graph that its production makes of theirs, a number of w * w bits
-  module _ (es : List Entry) (n : ℕ) (e : Entry) (m : Made (systemOf w g) (In (byNumber g)) es n e) where
+  module _ (es : List Entry) (n : ℕ) (e : Entry) (m : Made (systemOf w g) Part es n e) where
     abbrev kids : List ℕ
     kids = counting (rights (production g (e .production))) (e .kids)
 
@@ -61,25 +51,25 @@ module _ (w : ℕ) (g : Grammar) (formed : WellFormed g) (few : AtMost w g) wher
     unfolding systemOf
     small = rw (m .graph) (root-lt w (closed w g (e .production) (graphs es kids)))
 
-  pub derived : (es : List Entry) (k : ℕ) → Made (systemOf w g) (In (byNumber g)) es k (entry es k)
-      → Derived g (NumberHolds w) (InTable g) (told g es) k
+  pub derived : (es : List Entry) (k : ℕ) → Made (systemOf w g) Part es k (entry es k)
+      → Derived g (NumberHolds w) Part (told g es) k
   derived es k m =
       let e = entry es k in
       record {
-        part = in-table g (e .production) (m .kids .part);
+        part = m .kids .part;
         left = made-left es k e m;
         right = made-fits es k e m;
         made = made-graph es k e m;
       }
 
-  module _ (es : List Entry) (made : (k : ℕ) → k < length es → Made (systemOf w g) (In (byNumber g)) es k (entry es k)) where
-    pub all-derived : (k : ℕ) → k < length es → Derived g (NumberHolds w) (InTable g) (told g es) k
+  module _ (es : List Entry) (made : (k : ℕ) → k < length es → Made (systemOf w g) Part es k (entry es k)) where
+    pub all-derived : (k : ℕ) → k < length es → Derived g (NumberHolds w) Part (told g es) k
     all-derived k l = derived es k (made k l)
 
     -- the tree of each entry is complete, with its symbol and graph
     pub entry-shows : (k : ℕ) → k < length es
-        → Shows g (NumberHolds w) (InTable g) (told g es k .symbol) (told g es k .graph) (shownEntry (told g es) k)
-    entry-shows = entry-shown g (NumberHolds w) (InTable g) (told g es) (length es) all-derived
+        → Shows g (NumberHolds w) Part (told g es k .symbol) (told g es k .graph) (shownEntry (told g es) k)
+    entry-shows = entry-shown g (NumberHolds w) Part (told g es) (length es) all-derived
 
     -- its number has w * w bits
     pub low : (k : ℕ) → k < length es → entry es k .graph < 2 ^ (w * w)
@@ -90,22 +80,22 @@ module _ (w : ℕ) (g : Grammar) (formed : WellFormed g) (few : AtMost w g) wher
     earlier k l = fits-below (told g es) k (told g es k .kids) (rights (production g (entry es k .production))) (all-derived k l .right)
 
     pub again : (k : ℕ) → k < length es → shownEntry (told g es) k ≡ shown (told g es) (told g es k .production) (told g es k .kids)
-    again = shown-again g (NumberHolds w) (InTable g) (told g es) (length es) all-derived
+    again = shown-again g (NumberHolds w) Part (told g es) (length es) all-derived
 
     -- what is made of all entries is a pair of some tree
-    pub next-tree : (e : Entry) → Made (systemOf w g) (In (byNumber g)) es (length es) e
-        → OfTree g (NumberHolds w) (InTable g) (e .symbol, e .graph)
+    pub next-tree : (e : Entry) → Made (systemOf w g) Part es (length es) e
+        → OfTree g (NumberHolds w) Part (e .symbol, e .graph)
     next-tree e m =
         let p = e .production in
         let c = counting (rights (production g p)) (e .kids) in (
           shown (told g es) p c,
-          subst (λ (s : ℕ). Shows g (NumberHolds w) (InTable g) s (e .graph) (shown (told g es) p c)) (made-left es (length es) e m)
-              (shown-graph g (NumberHolds w) (InTable g) (told g es) (length es) all-derived p c (in-table g p (m .kids .part))
+          subst (λ (s : ℕ). Shows g (NumberHolds w) Part s (e .graph) (shown (told g es) p c)) (made-left es (length es) e m)
+              (shown-graph g (NumberHolds w) Part (told g es) (length es) all-derived p c (m .kids .part)
               (made-fits es (length es) e m) (e .graph) (made-graph es (length es) e m)),
         )
 
     -- the tree that a circular root shows
-    module _ (p : ℕ) (slots : List ℕ) (root : Root (systemOf w g) (In (byNumber g)) es p slots) where
+    module _ (p : ℕ) (slots : List ℕ) (root : Root (systemOf w g) Part es p slots) where
       root-fits : record-of-trees.KidsBelow (told g es) (length es) (counting (rights (production g p)) slots) (rights (production g p))
       unfolding systemOf
       root-fits = root .kids .fits
@@ -113,29 +103,29 @@ module _ (w : ℕ) (g : Grammar) (formed : WellFormed g) (few : AtMost w g) wher
       pub root-earlier : (j : ℕ) → List·Memᴰ j (counting (rights (production g p)) slots) → j < length es
       root-earlier = fits-below (told g es) (length es) (counting (rights (production g p)) slots) (rights (production g p)) root-fits
 
-      pub root-complete : Complete g (InTable g) (shown (told g es) p (counting (rights (production g p)) slots))
+      pub root-complete : Complete g Part (shown (told g es) p (counting (rights (production g p)) slots))
       root-complete =
-          shown-complete g (NumberHolds w) (InTable g) (told g es) (length es) all-derived p (counting (rights (production g p)) slots)
-          (in-table g p (root .kids .part)) root-fits
+          shown-complete g (NumberHolds w) Part (told g es) (length es) all-derived p (counting (rights (production g p)) slots)
+          (root .kids .part) root-fits
 
       pub root-circle : Circle (TreeEdge g (shown (told g es) p (counting (rights (production g p)) slots)))
       unfolding systemOf
       root-circle =
-          shown-circle g (NumberHolds w) (InTable g) (told g es) (length es) all-derived p (counting (rights (production g p)) slots)
-          (in-table g p (root .kids .part)) root-fits
+          shown-circle g (NumberHolds w) Part (told g es) (length es) all-derived p (counting (rights (production g p)) slots)
+          (root .kids .part) root-fits
           (circle-so w g formed few p (graphs es (counting (rights (production g p)) slots)) (counted es (length es) p (counting (rights (production g p)) slots) (root .kids .fits)) .0
           (root .round))
 
   -- a store to which nothing is left to add
-  pub saturated : (es : List Entry) → AllMade (systemOf w g) (In (byNumber g)) es
-      → record-of-trees.Saturated g (NumberHolds w) (InTable g) (told g es) (length es)
+  pub saturated : (es : List Entry) → AllMade (systemOf w g) Part es
+      → record-of-trees.Saturated g (NumberHolds w) Part (told g es) (length es)
   unfolding systemOf
   saturated es s = record {
     no-circle = λ p part c f h.
         true≢false
-        (sym (circle-so w g formed few p (graphs es c) (counted es (length es) p c f) .1 h) ∙ s p (by-number g p part) c f .0);
+        (sym (circle-so w g formed few p (graphs es c) (counted es (length es) p c f) .1 h) ∙ s p part c f .0);
     stored = λ p part c f.
-        let h = s p (by-number g p part) c f .1 in
+        let h = s p part c f .1 in
         record {
           number = h .number;
           among = h .among;

@@ -20,12 +20,13 @@ use Rattle.grammar.specs.declared.Broken.the-variants.{Record}
 use Rattle.grammar.specs.declared.Checked.the-variants.{Good}
 use Rattle.grammar.specs.Refusal.{refusal}
 use Rattle.trees.proofs.Values.{length-rights}
+use Rattle.parts.specs.Exactly.{Found}
 use Rattle.rules.specs.declared.Answer.{Answer}
 use Rattle.rules.specs.declared.Answer.the-variants.{Noncircular, Circular, Refused, OutOfSteps, OutOfRoom}
 use Rattle.rules.specs.declared.Report.{Report}
 use Rattle.rules.specs.declared.Entry.{Entry}
 use Rattle.rules.specs.Passes.{Outcome, numbered, numberOf, noValue, valueOf, entry, noEntry}
-use Rattle.rules.specs.Test.{systemOf, systemIn, byNumber}
+use Rattle.rules.specs.Test.{systemOf, systemIn}
 use Rattle.grammar.proofs.Lookups.{slots-seven}
 use Rattle.rules.proofs.Stored.{length-seven, counted-test}
 use Rattle.passes.specs.Slices as slices
@@ -34,7 +35,7 @@ use Rattle.rows.proofs.Writing.{length-written}
 use Rattle.records.specs.Records.{rowRoom, RowTested}
 use Rattle.kusillaqe.specs.Flat.{flat}
 use Rattle.orders.specs.Answers as runs
-use Rattle.orders.specs.Stored.{In, Slots}
+use Rattle.orders.specs.Stored.{Slots}
 use Rattle.texts.specs.Lines.{kidsIn}
 use Rattle.texts.specs.Telling.{OthersZero, RootZero, UnprintedZero}
 use Rattle.texts.proofs.Telling.{printed-tells}
@@ -94,14 +95,14 @@ program-of-records M 𝓤 H A mem run κs a r s =
 
 module _ (bs : List ℕ) (good : refusal bs ≡ Good) where
   -- the slots that count are those of the right symbols
-  others : (n p : ℕ) (slots : List ℕ) (o : Outcome) → Slots (systemIn bs) (In (byNumber (grammarOf bs))) (o .entries) n p slots
+  others : (n p : ℕ) (slots : List ℕ) (o : Outcome) → Slots (systemIn bs) (Found (grammarOf bs)) (o .entries) n p slots
       → OthersZero (kidsIn bs p) slots
   unfolding systemOf
   others n p slots o s =
       subst (λ (k : ℕ). OthersZero k slots) (length-rights (grammarOf bs) (obeys bs good .0) p) (s .rest)
 
   root-zero : (limit room : ℕ) (o : Outcome) (a : Answer)
-      → runs.Says (systemIn bs) (In (byNumber (grammarOf bs))) limit room o a → RootZero (kidsIn bs) o a
+      → runs.Says (systemIn bs) (Found (grammarOf bs)) limit room o a → RootZero (kidsIn bs) o a
   root-zero limit room o Noncircular s = s .1
   root-zero limit room o (Circular p) s = others (length (o .entries)) p (o .report .root) o (s .kids)
   root-zero limit room o (Refused k) s = absurd s
@@ -166,7 +167,7 @@ module _ (bs : List ℕ) (good : refusal bs ≡ Good) where
   seven-long n slots few z = ap length z ∙ length-seven (take n slots) (omega (arith, length-take n slots))
 
   said-told : (limit room : ℕ) (o : Outcome) (a : Answer)
-      → runs.Says (systemIn bs) (In (byNumber (grammarOf bs))) limit room o a
+      → runs.Says (systemIn bs) (Found (grammarOf bs)) limit room o a
       → (answerFrom (numberOf a) (valueOf a) ≡ a) × (length (o .report .root) ≡ 7)
   unfolding numbered
   said-told limit room o Noncircular s = (refl, ap length (s .1))

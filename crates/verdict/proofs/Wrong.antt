@@ -12,11 +12,11 @@ use Rattle.rules.specs.declared.Answer.{Answer}
 use Rattle.rules.specs.declared.Answer.the-variants.{Noncircular, Circular, Refused, OutOfSteps, OutOfRoom}
 use Rattle.rules.specs.Passes.{Outcome, outcome, noRoot, empty}
 use Rattle.rules.specs.Opened.{opened}
-use Rattle.rules.specs.Small.{tableA, tableB}
-use Rattle.verdict.specs.Demands.{Version, back, said, shownTree, CircularShown, RefusedExactlyAlways, CircularShownAlways, NoncircularNone, NoncircularNoneAlways, StepsExactlyAlways, RoomExactlyAlways, RoomCountsAlways, Finishes, NeverStill, NeverStillAlways, PassesFollowed}
-use Rattle.verdict.specs.Wrong.{RefusesEvery, AlwaysOutOfSteps, AlwaysOutOfRoom, AlwaysNoncircular, AlwaysCircular, StoresNothing, BeginsOnePass, onePass, AlwaysCounts, constantly}
-use Rattle.verdict.proofs.Demands.{circular-shown}
-use Rattle.verdict.proofs.Examples.{unbroken-A, none-A, closures-A, entries-A, not-three, circular-B, still-B, closures-B, entries-B}
+use Rattle.rules.specs.Small.{tableA, tableB, tableSpare, tableBarren}
+use Rattle.verdict.specs.Demands.{Version, back, said, shownTree, CircularShown, RefusedExactlyAlways, CircularShownAlways, NoncircularNone, NoncircularNoneAlways, NothingTriedAlways, StepsExactlyAlways, RoomExactlyAlways, RoomCountsAlways, Finishes, NeverStill, NeverStillAlways, PassesFollowed}
+use Rattle.verdict.specs.Wrong.{RefusesEvery, AlwaysOutOfSteps, AlwaysOutOfRoom, AlwaysNoncircular, AlwaysCircular, StoresNothing, BeginsOnePass, onePass, everyProduction, AlwaysCounts, constantly}
+use Rattle.verdict.proofs.Demands.{circular-shown, some-circle}
+use Rattle.verdict.proofs.Examples.{unbroken-A, none-A, closures-A, entries-A, not-three, circular-B, still-B, closures-B, entries-B, none-spare, no-tree-barren, unbroken-barren}
 
 -- ---- demand 1: only bad tables are refused, and A is not bad
 pub refuses-every : (v : Version) → RefusedExactlyAlways v → ¬ RefusesEvery v
@@ -57,7 +57,7 @@ abbrev treeB : Tree
 treeB = shownTree tableB (back tableB 3 2) 0
 
 pub some-B : ¬ NoncircularNone tableB
-some-B none = let c = circular-shown tableB 3 2 0 circular-B in none (treeB, c .complete, c .circle)
+some-B none = none (some-circle tableB 0 (back tableB 3 2) (circular-shown tableB 3 2 0 circular-B))
 
 pub none-finishes-B : (ev : Evaluator (grammarOf tableB) treeB) → ¬ Finishes tableB treeB ev
 none-finishes-B ev finishes =
@@ -80,16 +80,35 @@ always-noncircular v demand wrong = some-B (demand tableB 3 2 (wrong tableB 3 2)
 
 pub always-noncircular-still : (v : Version) → NeverStillAlways v → ¬ AlwaysNoncircular v
 always-noncircular-still v demand wrong =
-    still-early-B (demand tableB 3 2 (wrong tableB 3 2) treeB (circular-shown tableB 3 2 0 circular-B .complete))
+    still-early-B (demand tableB 3 2 (wrong tableB 3 2) treeB (circular-shown tableB 3 2 0 circular-B .from-start))
 
 -- ---- demand 2 at A: no outcome shows a tree with a circle
 pub no-tree-A : (p : ℕ) (o : Outcome) → ¬ CircularShown tableA p o
-no-tree-A p o c = none-A (shownTree tableA o p, c .complete, c .circle)
+no-tree-A p o c = none-A (some-circle tableA p o c)
 
 pub always-circular : (v : Version) → CircularShownAlways v → ¬ AlwaysCircular v
 always-circular v demand wrong =
     let r = wrong tableA 10 3 in
     no-tree-A (r .0) (v tableA 10 3) (demand tableA 10 3 (r .0) (r .1))
+
+-- ---- what takes no part is skipped: else a spare symbol's tree would be shown, and no tree from the start symbol has a circle
+circular-every : said (everyProduction tableSpare 2 1) ≡ Circular 1
+unfolding opened tableSpare
+circular-every = refl
+
+pub every-production : ¬ CircularShownAlways everyProduction
+every-production demand =
+    none-spare (some-circle tableSpare 1 (everyProduction tableSpare 2 1) (demand tableSpare 2 1 1 circular-every))
+
+-- and a start symbol without a finite tree would not be noncircular
+circular-every-barren : said (everyProduction tableBarren 1 0) ≡ Circular 1
+unfolding opened tableBarren
+circular-every-barren = refl
+
+pub every-production-barren : ¬ NothingTriedAlways everyProduction
+every-production-barren demand =
+    let nothing = demand tableBarren 1 0 unbroken-barren no-tree-barren in
+    let z : _≡_ {A = ℕ} 0 1 = cc (circular-every-barren, ap said nothing) in omega arith
 
 -- ---- the passes, at A and B
 passes-A : back tableA 10 3 .report .passes ≡ 3

@@ -14,6 +14,8 @@ use Rattle.grammar.specs.Grammar.{Grammar, production, rights}
 use Rattle.grammar.specs.Table.{widthOf, grammarOf}
 use Rattle.grammar.specs.Rules.{Breaks}
 use Rattle.trees.specs.Tree.{Tree, rootSymbol, Instance, here, Complete, InTable, TreeEdge, instances}
+use Rattle.trees.specs.Address.{Subtree}
+use Rattle.trees.specs.TakesPart.{RootedAt, HasTree, FromStart}
 use Rattle.trees.specs.Evaluator.{Computed, left, notGiven, MayTake, StandsStill, Reached, Position, Evaluator, play}
 use Rattle.trees.specs.Record as record-of-trees
 use Rattle.trees.specs.Record.{shownEntry, shown, pairs}
@@ -47,6 +49,18 @@ NoRuleBroken bs = (b : Broken) → ¬ Breaks bs b
 abbrev pub TreeOf : List ℕ → Tree → Type 0
 TreeOf bs = Complete (grammarOf bs) (InTable (grammarOf bs))
 
+-- a tree from the start symbol: a finite complete tree rooted there
+abbrev pub StartTree : List ℕ → Tree → Type 0
+StartTree bs = RootedAt (grammarOf bs) (grammarOf bs .start)
+
+-- a tree that stands below the start symbol: a subtree, at some address, of a tree from there; so is that tree itself, at the empty address
+abbrev pub BelowStart : List ℕ → Tree → Type 0
+BelowStart bs = FromStart (grammarOf bs)
+
+-- the start symbol has no finite tree
+abbrev pub NoStartTree : List ℕ → Type 0
+NoStartTree bs = ¬ HasTree (grammarOf bs) (grammarOf bs .start)
+
 -- a path of one or more edges inside a tree
 abbrev pub PathIn : List ℕ → Tree → Instance → Instance → Type 0
 PathIn bs t = Plus (TreeEdge (grammarOf bs) t)
@@ -58,9 +72,9 @@ OnCircle bs t y = PathIn bs t y y
 abbrev pub HasCircle : List ℕ → Tree → Type 0
 HasCircle bs t = (y : Instance) × OnCircle bs t y
 
--- the grammar is circular: some finite complete tree, rooted at any symbol, has a circle
+-- the grammar is circular: some tree from the start symbol has a circle
 abbrev pub SomeCircle : List ℕ → Type 0
-SomeCircle bs = (t : Tree) × TreeOf bs t × HasCircle bs t
+SomeCircle bs = (t : Tree) × StartTree bs t × HasCircle bs t
 
 -- The graph of a tree as one number of 64 bits: it holds the pair (a, b) of root attributes, worth 2 to the power 8a + b, exactly if a path
 -- of at least one edge leads from a to b inside the tree. There is no path from or to a root attribute of any other number.
@@ -69,10 +83,10 @@ pub record GraphOf (bs : List ℕ) (t : Tree) (graph : ℕ) : Type 0 where
   pub bits : (a b : ℕ) → a < widthOf bs → b < widthOf bs → (bit (widthOf bs * a + b) graph ≡ 1) ↔ PathIn bs t (here a) (here b)
   pub no-other : (a b : ℕ) → PathIn bs t (here a) (here b) → (a < widthOf bs) × (b < widthOf bs)
 
--- a symbol and a graph that some finite complete tree has, at its root
+-- a symbol and a graph that some tree below the start symbol has, at its root
 pub record TreePair (bs : List ℕ) (q : ℕ × ℕ) : Type 0 where
   pub tree : Tree
-  pub complete : TreeOf bs tree
+  pub from-start : BelowStart bs tree
   pub symbol : rootSymbol (grammarOf bs) tree ≡ q .0
   pub graph : GraphOf bs tree (q .1)
 
@@ -106,9 +120,10 @@ RefusedExactlyAlways v = (bs : List ℕ) (limit room : ℕ) (b : Broken) → Ref
 
 -- ---- demand 2: the verdict
 
--- an entry: the tree that it shows is complete, with the entry's symbol at its root and the entry's graph
+-- an entry: the tree that it shows is complete and stands below the start symbol, with the entry's symbol at its root and the entry's graph
 pub record EntryShown (bs : List ℕ) (k : ℕ) (o : Outcome) : Type 0 where
   pub complete : TreeOf bs (entryTree bs o k)
+  pub from-start : BelowStart bs (entryTree bs o k)
   pub symbol : rootSymbol (grammarOf bs) (entryTree bs o k) ≡ entryOf bs o k .symbol
   pub graph : GraphOf bs (entryTree bs o k) (entryOf bs o k .graph)
   -- the tree is finite because each number is smaller than its parent's
@@ -121,9 +136,11 @@ abbrev pub EntriesShownAlways : Version → Type 0
 EntriesShownAlways v =
     (bs : List ℕ) (limit room k : ℕ) → k < length (v bs limit room .entries) → EntryShown bs k (v bs limit room)
 
--- after circular: the shown tree is complete and has a circle; the entry numbers of its root are those of stored entries
+-- after circular: the shown tree is complete, stands below the start symbol and has a circle; the entry numbers of its root are those of
+-- stored entries
 pub record CircularShown (bs : List ℕ) (p : ℕ) (o : Outcome) : Type 0 where
   pub complete : TreeOf bs (shownTree bs o p)
+  pub from-start : BelowStart bs (shownTree bs o p)
   pub circle : HasCircle bs (shownTree bs o p)
   pub earlier : (j : ℕ) → List·Memᴰ j (counting (rights (production (grammarOf bs) p)) (o .report .root)) → j < length (o .entries)
 
@@ -131,12 +148,19 @@ abbrev pub CircularShownAlways : Version → Type 0
 CircularShownAlways v =
     (bs : List ℕ) (limit room p : ℕ) → said (v bs limit room) ≡ Circular p → CircularShown bs p (v bs limit room)
 
--- after noncircular: no tree has a circle
+-- after noncircular: no tree from the start symbol has a circle
 abbrev pub NoncircularNone : List ℕ → Type 0
 NoncircularNone bs = ¬ SomeCircle bs
 
 abbrev pub NoncircularNoneAlways : Version → Type 0
 NoncircularNoneAlways v = (bs : List ℕ) (limit room : ℕ) → said (v bs limit room) ≡ Noncircular → NoncircularNone bs
+
+-- where the start symbol has no finite tree: noncircular, no closure, no entry, one pass
+abbrev pub NothingTried : Outcome → Type 0
+NothingTried o = o ≡ outcome Noncircular noRoot empty 1
+
+abbrev pub NothingTriedAlways : Version → Type 0
+NothingTriedAlways v = (bs : List ℕ) (limit room : ℕ) → NoRuleBroken bs → NoStartTree bs → NothingTried (v bs limit room)
 
 -- under every answer no more closures are made than the limit and no more entries stored than the room, and the report counts the entries;
 -- out of steps comes at the limit, and out of room at the room
@@ -177,13 +201,13 @@ MorePairs bs R = (l : List (ℕ × ℕ)) × Distinct l × (R < length l) × ((q 
 abbrev pub storedPairs : List ℕ → Outcome → List (ℕ × ℕ)
 storedPairs bs o = pairs (entryOf bs o) (length (o .entries))
 
--- out of room exactly if the trees have more than R different pairs; else the entries are those pairs, each once
+-- out of room exactly if the trees below the start symbol have more than R different pairs; else the entries are those pairs, each once
 pub record RoomCounts (bs : List ℕ) (R : ℕ) (o : Outcome) : Type 0 where
   pub exactly : (said o ≡ OutOfRoom) ↔ MorePairs bs R
   pub once : Distinct (storedPairs bs o)
   pub those : ¬ (said o ≡ OutOfRoom) → (q : ℕ × ℕ) → List·Memᴰ q (storedPairs bs o) ↔ TreePair bs q
 
--- where the table is taken, no tree has a circle and the run does not end out of steps
+-- where the table is taken, no tree from the start symbol has a circle and the run does not end out of steps
 abbrev pub RoomCountsAlways : Version → Type 0
 RoomCountsAlways v =
     (bs : List ℕ) (limit R : ℕ) → NoRuleBroken bs → NoncircularNone bs → ¬ (said (v bs limit R) ≡ OutOfSteps)
@@ -236,15 +260,23 @@ module _ (bs : List ℕ) (t : Tree) where
         {n : ℕ} {d : Computed Instance} → Reached (grammarOf bs) t n d
         → (y : Instance) → OnCircle bs t y → ValueOf y × (d y ≡ false)
 
--- after noncircular: on any tree
+-- after noncircular: on any tree from the start symbol, and on any subtree of one
 abbrev pub NeverStillAlways : Version → Type 0
 NeverStillAlways v =
-    (bs : List ℕ) (limit room : ℕ) → said (v bs limit room) ≡ Noncircular → (t : Tree) → TreeOf bs t → NeverStill bs t
+    (bs : List ℕ) (limit room : ℕ) → said (v bs limit room) ≡ Noncircular → (t : Tree) → BelowStart bs t → NeverStill bs t
 
 -- after circular: on the shown tree
 abbrev pub StandsStillLeftAlways : Version → Type 0
 StandsStillLeftAlways v =
     (bs : List ℕ) (limit room p : ℕ) → said (v bs limit room) ≡ Circular p → StandsStillLeft bs (shownTree bs (v bs limit room) p)
+
+-- and on any tree from the start symbol that has the shown tree at some address
+abbrev pub StandsStillAbove : List ℕ → Tree → Type 0
+StandsStillAbove bs s = (t : Tree) (d : List ℕ) → StartTree bs t → Subtree t d s → StandsStillLeft bs t
+
+abbrev pub StandsStillAboveAlways : Version → Type 0
+StandsStillAboveAlways v =
+    (bs : List ℕ) (limit room p : ℕ) → said (v bs limit room) ≡ Circular p → StandsStillAbove bs (shownTree bs (v bs limit room) p)
 
 -- ---- and every outcome, with its counts and its entries, is that of the passes
 abbrev pub PassesFollowed : Version → Type 0

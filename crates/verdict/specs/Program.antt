@@ -11,7 +11,7 @@ use Rattle.rules.specs.declared.Answer.the-variants.{Noncircular, Circular, Out
 use Rattle.rules.specs.declared.Report.{Report}
 use Rattle.rules.specs.Passes.{Outcome, entry}
 use Rattle.passes.specs.Slices.{Slices, roomOf, readOut}
-use Rattle.verdict.specs.Demands.{back, said, NoRuleBroken, TreeOf, shownTree, RefusedExactly, EntryShown, CircularShown, NoncircularNone, LimitsKept, StepsExactly, RoomExactly, RoomCounts, NeverStill, StandsStillLeft}
+use Rattle.verdict.specs.Demands.{back, said, NoRuleBroken, BelowStart, NoStartTree, shownTree, RefusedExactly, EntryShown, CircularShown, NoncircularNone, NothingTried, LimitsKept, StepsExactly, RoomExactly, RoomCounts, NeverStill, StandsStillLeft, StandsStillAbove}
 
 -- the entry k of what comes back stands at k in the slices
 pub record Stands (bs : List ℕ) (limit : ℕ) (σ τ : Slices) (k : ℕ) : Type 0 where
@@ -40,16 +40,18 @@ pub record Demanded (bs : List ℕ) (limit R : ℕ) (o : Outcome) : Type 0 where
   pub refused : (b : Broken) → RefusedExactly bs b o
   -- every entry means a tree
   pub entries : (k : ℕ) → k < length (o .entries) → EntryShown bs k o
-  -- 2: circular with a tree that is shown, noncircular only if no tree has a circle, 8 and 9 exactly
+  -- 2: circular with a tree that is shown, noncircular only if no tree from the start symbol has a circle, 8 and 9 exactly
   pub circular : (p : ℕ) → said o ≡ Circular p → CircularShown bs p o
   pub noncircular : said o ≡ Noncircular → NoncircularNone bs
+  pub start-without-tree : NoRuleBroken bs → NoStartTree bs → NothingTried o
   pub limits : LimitsKept limit R o
   pub steps : (M : ℕ) → limit < M → StepsExactly bs limit M R o
   pub room : (l S : ℕ) → R < S → o .report .closures ≤ l → l ≤ limit → RoomExactly bs limit l R S o
   pub room-counts : NoRuleBroken bs → NoncircularNone bs → ¬ (said o ≡ OutOfSteps) → RoomCounts bs R o
   -- 3: evaluators
-  pub never-still : said o ≡ Noncircular → (t : Tree) → TreeOf bs t → NeverStill bs t
+  pub never-still : said o ≡ Noncircular → (t : Tree) → BelowStart bs t → NeverStill bs t
   pub stands-still : (p : ℕ) → said o ≡ Circular p → StandsStillLeft bs (shownTree bs o p)
+  pub stands-still-above : (p : ℕ) → said o ≡ Circular p → StandsStillAbove bs (shownTree bs o p)
 
 pub record Program (bs : List ℕ) (limit : ℕ) (σ : Slices) (r : Report) (τ : Slices) : Type 0 where
   -- the report with its counts and its root, every entry, and the rest of the room; after a refusal all of it

@@ -2,12 +2,15 @@
 use mathlib.Core.List.{List, []}
 use mathlib.Core.Path.{_≡_}
 use Prim.Native.Nat.{ℕ, _≤_}
+use lib.ListN.{length}
+use Rattle.numbers.specs.Lists.{upFrom}
 use Rattle.grammar.specs.declared.Broken.{Broken}
 use Rattle.grammar.specs.Table.{grammarOf}
 use Rattle.grammar.specs.Refusal.{refusal}
+use Rattle.parts.specs.Rule.{taking}
 use Rattle.rules.specs.declared.Answer.the-variants.{Noncircular, Circular, Refused, OutOfSteps, OutOfRoom}
-use Rattle.rules.specs.Passes.{Outcome, outcome, noRoot, pass, after, empty}
-use Rattle.rules.specs.Test.{systemIn, byNumber, afterCheck}
+use Rattle.rules.specs.Passes.{Outcome, outcome, noRoot, pass, after, empty, passes}
+use Rattle.rules.specs.Test.{systemIn, afterCheck}
 use Rattle.verdict.specs.Demands.{Version, said}
 
 abbrev pub RefusesEvery : Version → Type 0
@@ -35,7 +38,12 @@ BeginsOnePass bs limit room v = v bs limit room .report .passes ≤ 1
 abbrev pub onePass : Version
 onePass bs limit room =
     afterCheck (refusal bs)
-    (after empty 1 (pass (systemIn bs) limit room (byNumber (grammarOf bs)) empty) (λ s. outcome Noncircular noRoot s 1))
+    (after empty 1 (pass (systemIn bs) limit room (taking (grammarOf bs)) empty) (λ s. outcome Noncircular noRoot s 1))
+
+-- every production is tried, whether it takes part or not
+abbrev pub everyProduction : Version
+everyProduction bs limit room =
+    afterCheck (refusal bs) (passes (systemIn bs) limit room (upFrom 0 (length (grammarOf bs .productions))))
 
 -- the count of closures is the invented number n
 abbrev pub AlwaysCounts : ℕ → Version → Type 0

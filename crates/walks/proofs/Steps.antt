@@ -87,7 +87,7 @@ added-one A s i out b e =
     }
 
 -- symbols of a set T, of which one was not there
-pub added-some : (T A : Symbols) (ss : List ℕ) → IsSet T → IsSet A → every (has T) ss ≡ true → every (has A) ss ≡ false
+pub added-some : (T A : Symbols) (ss : List ℕ) → length T ≡ 4 → IsSet A → every (has T) ss ≡ true → every (has A) ss ≡ false
     → Added A (addAll A ss) true
 added-some T A ss j i all out =
     record {

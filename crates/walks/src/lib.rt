@@ -2,12 +2,12 @@
 ghost use mathlib.Core.Path.{_≡_};
 ghost use mathlib.Core.Bool.{true, cond};
 ghost use Prim.Native.Nat.{_+_, _-_, _≤_, _<_};
-ghost use lib.Dec.{ltb};
+ghost use lib.Dec.{leb, ltb};
 ghost use lib.ListN.{length, getD, take};
 ghost use Rattle.numbers.specs.Number.{le2};
 ghost use Rattle.numbers.specs.Lists.{every};
 ghost use Rattle.grammar.specs.Grammar.{rights};
-ghost use Rattle.grammar.specs.Table.{productionIn, grammarOf};
+ghost use Rattle.grammar.specs.Table.{atEdges, productionIn, grammarOf};
 ghost use Rattle.parts.specs.Sets as sets;
 ghost use Rattle.parts.specs.Rule as rule;
 ghost use Rattle.parts.proofs.Sets.{IsSet};
@@ -18,7 +18,6 @@ use grammar::Production;
 use grammar::SLOTS;
 use numbers::smaller;
 use numbers::wide;
-use parts::Parts;
 use parts::WORDS;
 use tables::header_of;
 use tables::offsets_of;
@@ -123,7 +122,7 @@ fn grow(table: &[u8], at: usize, set: &mut [u64]) -> bool
 
 // Right symbols that are all reached already are added to no purpose.
 fn spread(table: &[u8], at: usize, trees: &[u64], set: &mut [u64]) -> bool
-    requires { ⌜ AtProduction (now table) at (now set) × IsSet (now trees) ⌝ }
+    requires { ⌜ AtProduction (now table) at (now set) × (length (now trees) ≡ 4) ⌝ }
     ensures { λ r. ⌜ (now (set .exit) ≡ rule.spread (now (trees .entry)) (now (set .entry)) (productionIn (now (table .entry)) at))
         × Added (now (set .entry)) (now (set .exit)) r ⌝ }
 {
@@ -171,7 +170,7 @@ fn grow_walk(table: &[u8], set: &mut [u64], up: bool) -> bool
 }
 
 fn spread_walk(table: &[u8], trees: &[u64], set: &mut [u64], up: bool) -> bool
-    requires { ⌜ Whole (now table) × IsSet (now set) × IsSet (now trees) ⌝ }
+    requires { ⌜ Whole (now table) × IsSet (now set) × (length (now trees) ≡ 4) ⌝ }
     ensures { λ r. ⌜ (now (set .exit)
         ≡ rule.walk (rule.spread (now (trees .entry))) (turned up (grammarOf (now (table .entry)) .productions)) (now (set .entry)))
         × Added (now (set .entry)) (now (set .exit)) r ⌝ }
@@ -205,7 +204,7 @@ fn with_trees(table: &[u8]) -> [u64; WORDS]
 
 // The start symbol, if it has a finite tree.
 fn begin(trees: &[u64], start: u16) -> [u64; WORDS]
-    requires { ⌜ IsSet (now trees) ⌝ }
+    requires { ⌜ length (now trees) ≡ 4 ⌝ }
     ensures { λ r. ⌜ r ≡ rule.begun (now (trees .entry)) start ⌝ }
 {
     let mut set = [0u64; WORDS];
@@ -233,7 +232,7 @@ fn same(a: &[u64], b: &[u64]) -> bool
 
 // The symbols that are reached, where `trees` have a finite tree. When all of these are reached, nothing is left to add.
 fn from_start(table: &[u8], trees: &[u64]) -> [u64; WORDS]
-    requires { ⌜ Whole (now table) × IsSet (now trees) ⌝ }
+    requires { ⌜ Whole (now table) × (length (now trees) ≡ 4) ⌝ }
     ensures { λ r. ⌜ r ≡ rule.reached (grammarOf (now (table .entry))) (now (trees .entry)) ⌝ }
 {
     let mut set = begin(trees, header_of(table).start);
@@ -247,20 +246,32 @@ fn from_start(table: &[u8], trees: &[u64]) -> [u64; WORDS]
     set
 }
 
-// The two sets of a table.
-pub fn parts_of(table: &[u8]) -> Parts
-    ensures { λ r. ⌜ r ≡ rule.partsIn (now (table .entry)) ⌝ }
+// ---- the two sets of a table: where the bytes end before the productions do, no symbol is in them
+
+fn is_whole(table: &[u8]) -> bool
+    ensures { λ r. ⌜ r ≡ leb (atEdges (now (table .entry))) (length (now (table .entry))) ⌝ }
 {
-    if table.len() < offsets_of(table).edges as usize {
-        let nothing = [0u64; WORDS];
-        return Parts {
-            treed: nothing,
-            reached: nothing,
-        };
+    offsets_of(table).edges as usize <= table.len()
+}
+
+// The symbols that have a finite tree.
+pub fn treed_of(table: &[u8]) -> [u64; WORDS]
+    ensures { λ r. ⌜ r ≡ rule.ifWhole (now (table .entry)) (rule.treed (grammarOf (now (table .entry)))) ⌝ }
+{
+    if is_whole(table) {
+        return with_trees(table);
     }
-    let treed = with_trees(table);
-    let reached = from_start(table, &treed);
-    Parts { treed, reached }
+    [0u64; WORDS]
+}
+
+// The symbols that are reached from the start symbol, where those of `treed` have a finite tree.
+pub fn reached_of(table: &[u8], treed: &[u64; WORDS]) -> [u64; WORDS]
+    ensures { λ r. ⌜ r ≡ rule.ifWhole (now (table .entry)) (rule.reached (grammarOf (now (table .entry))) (now (treed .entry))) ⌝ }
+{
+    if is_whole(table) {
+        return from_start(table, treed);
+    }
+    [0u64; WORDS]
 }
 
 // ---- one production

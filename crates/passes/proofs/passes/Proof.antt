@@ -7,24 +7,24 @@ use borrow.Author.Needs.{needs}
 use native.Mathlib.Omega.{arith}
 use Rattle.numbers.specs.Lists.{upFrom}
 use Rattle.steps.specs.declared.Run.{Run}
-use Rattle.rules.specs.Passes.{System}
+use Rattle.grammar.specs.Table.{grammarOf}
+use Rattle.rules.specs.Passes.{System, pass}
 use Rattle.rules.specs.Test.{systemIn}
 use Rattle.passes.specs.Slices.{Slices, slices}
 use Rattle.steps.specs.Step.{goesOn}
-use Rattle.passes.specs.Follow.{Follows, Kept, Roomy}
+use Rattle.passes.specs.Follow.{Follows, Kept, Roomy, partsAmong}
 use Rattle.passes.proofs.Following.{kept-then, kept-roomy}
-use Rattle.passes.proofs.Passing.{through}
 use Rattle.passes.proofs.Ending.{roomy-start, tells, Reached, reached-start, reached-more, ends-stop, ends-done}
 use Rattle.passes.proofs.passes.Statement.{statement}
 use Rattle.passes.proofs.passes.Tie as tie
 
 abbrev Inv-loop : tie.InvT-loop
-Inv-loop table count symbols₀ graphs₀ productions₀ kids₀ room limit now₀ begun₀ symbols graphs productions kids now begun =
-    Reached (systemIn table) limit room (upFrom 0 count) (slices symbols₀ graphs₀ productions₀ kids₀) now₀ begun
+Inv-loop table count treed reached symbols₀ graphs₀ productions₀ kids₀ room limit now₀ begun₀ symbols graphs productions kids now begun =
+    Reached (systemIn table) limit room (partsAmong treed reached (grammarOf table) (upFrom 0 count)) (slices symbols₀ graphs₀ productions₀ kids₀) now₀ begun
     (slices symbols graphs productions kids) now
 
 abbrev μ-loop : tie.MeasureT-loop
-μ-loop table count symbols₀ graphs₀ productions₀ kids₀ room limit now₀ begun₀ symbols graphs productions kids now begun =
+μ-loop table count treed reached symbols₀ graphs₀ productions₀ kids₀ room limit now₀ begun₀ symbols graphs productions kids now begun =
     room - now .stored
 
 module _ (c : tie.At-loop Inv-loop μ-loop) where
@@ -35,7 +35,7 @@ module _ (c : tie.At-loop Inv-loop μ-loop) where
   W = systemIn (start .args .table .now)
 
   abbrev ps : List ℕ
-  ps = upFrom 0 (start .args .count)
+  ps = partsAmong (start .args .treed .now) (start .args .reached .now) (grammarOf (start .args .table .now)) (upFrom 0 (start .args .count))
 
   abbrev σ₀ : Slices
   σ₀ = slices (start .args .symbols .now) (start .args .graphs .now) (start .args .productions .now) (start .args .kids .now)
@@ -61,12 +61,12 @@ module _ (c : tie.After-pass Inv-loop μ-loop) where
 
   abbrev τ : Slices
   τ =
-      slices (c .pass .last .1 .1 .0) (c .pass .last .1 .1 .1 .0) (c .pass .last .1 .1 .1 .1 .0) (c .pass .last .1 .1 .1 .1 .1 .0)
+      slices (c .pass .last .1 .1 .1 .1 .0) (c .pass .last .1 .1 .1 .1 .1 .0) (c .pass .last .1 .1 .1 .1 .1 .1 .0) (c .pass .last .1 .1 .1 .1 .1 .1 .1 .0)
 
   abbrev q : Run
   q = c .pass .result
 
-  followed : Follows (start l .args .room) (through (W l) (start l .args .room) (ps l)) (σ l) (l .loop .now) τ q
+  followed : Follows (start l .args .room) (λ limit. pass (W l) limit (start l .args .room) (ps l)) (σ l) (l .loop .now) τ q
   followed = c .pass .ensures
 
   kept : Kept (start l .args .room) (σ₀ l) (r₀ l) τ q
@@ -85,7 +85,7 @@ loop-holds : tie.Need-loop-holds Inv-loop μ-loop
 loop-holds c =
     let s = c .before .before .before .before .before .before in
     let b = c .going-on .ensures in
-    reached-start (systemIn (s .args .table .now)) (s .args .limit) (s .args .room) (upFrom 0 (s .args .count)) _ (c .going-on .result)
+    reached-start (systemIn (s .args .table .now)) (s .args .limit) (s .args .room) _ _ (c .going-on .result)
     (ap (λ (x : Run). x .left) b) (ap (λ (x : Run). x .stored) b) (ap (λ (x : Run). x .course) b)
 
 add-begun : tie.Need-add-begun Inv-loop μ-loop

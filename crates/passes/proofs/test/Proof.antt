@@ -1,7 +1,10 @@
 -- `passes::test` meets its contract. Assumes nothing.
-use mathlib.Core.Path.{sym, ap, _∙_}
+use mathlib.Core.Path.{_≡_, sym, ap, _∙_}
 use borrow.Author.Needs.{needs}
 use Rattle.grammar.specs.declared.Header.{Header}
+use Rattle.grammar.specs.declared.Checked.the-variants.{Good}
+use Rattle.grammar.specs.Table.{P}
+use Rattle.grammar.specs.Refusal.{refusal}
 use Rattle.passes.specs.Slices.{slices}
 use Rattle.passes.proofs.Testing.{test-taken, test-refused, tells-refused, tells-same}
 use Rattle.passes.proofs.test.Statement.{statement}
@@ -29,10 +32,27 @@ header-of-requires c κs = search needs
 wide-requires : tie.Need-wide-requires
 wide-requires c κs = search needs
 
+treed-of-requires : tie.Need-treed-of-requires
+treed-of-requires c κs = search needs
+
+reached-of-requires : tie.Need-reached-of-requires
+reached-of-requires c κs = search needs
+
+-- what is known when the passes begin
+module _ (c : tie.After-treed-of) where
+  abbrev start : tie.Start
+  start = c .before .before .before .before .before .before .before .before .before .before .before .before
+
+  good : refusal (start .args .table .now) ≡ Good
+  good = sym (c .before .before .before .before .before .before .check .ensures) ∙ c .before .before .before .before .enum-told .given .1
+
+  counted : c .before .wide .result ≡ P (start .args .table .now)
+  counted = c .before .wide .ensures ∙ ap (λ (h : Header). h .productions) (c .before .before .header-of .ensures)
+
 passes-requires : tie.Need-passes-requires
 passes-requires c κs =
-    let s = c .before .before .before .before .before .before .before .before .before .before .before .before .before .before .before in
-    (sym (c .before .before .before .before .before .before .before .before .before .check .ensures) ∙ c .before .before .before .before .before .before .before .enum-told .given .1, c .before .before .before .before .wide .ensures ∙ ap (λ (h : Header). h .productions) (c .before .before .before .before .before .header-of .ensures), c .before .before .before .before .before .before .room-of .ensures)
+    let a = c .before .before .before .before .before .before .before .before in
+    (good a, counted a, a .before .before .before .room-of .ensures)
 
 same-length : tie.Need-same-length
 same-length c = search needs
@@ -48,11 +68,11 @@ same-length-4 c = search needs
 
 returns-2 : tie.Need-returns-2
 returns-2 c =
-    let s = c .before .before .before .before .before .before .before .before .before .before .before .before .before .before .before .before .before .before .before .before .before .before .before .before in
-    let e = test-taken (s .args .table .now) (s .args .limit) _ _ (slices (s .args .symbols .now) (s .args .graphs .now) (s .args .productions .now) (s .args .kids .now))
-    (sym (c .before .before .before .before .before .before .before .before .before .before .before .before .before .before .before .before .before .before .check .ensures) ∙ c .before .before .before .before .before .before .before .before .before .before .before .before .before .before .before .before .enum-told .given .1)
-    (c .before .before .before .before .before .before .before .before .before .before .before .before .before .wide .ensures ∙ ap (λ (h : Header). h .productions) (c .before .before .before .before .before .before .before .before .before .before .before .before .before .before .header-of .ensures)) (c .before .before .before .before .before .before .before .before .before .before .before .before .before .before .before .room-of .ensures) in
-    tells-same e (c .before .before .before .before .before .before .before .before .passes .ensures)
+    let a = c .before .before .before .before .before .before .before .before .before .before .before .before .before .before .before .before .before in
+    let s = start a in
+    tells-same
+    (test-taken (s .args .table .now) (s .args .limit) _ _ (a .treed-of .result) _ (slices (s .args .symbols .now) (s .args .graphs .now) (s .args .productions .now) (s .args .kids .now)) (good a) (counted a) (a .before .before .before .room-of .ensures) (a .treed-of .ensures) (c .before .before .before .before .before .before .before .before .before .before .before .before .before .before .before .reached-of .ensures))
+    (c .before .before .before .before .before .before .before .before .passes .ensures)
 
 pub test-spec : {M : Type 1} → statement M
 test-spec =
@@ -65,6 +85,8 @@ test-spec =
     room-of-requires
     header-of-requires
     wide-requires
+    treed-of-requires
+    reached-of-requires
     passes-requires
     same-length
     same-length-2

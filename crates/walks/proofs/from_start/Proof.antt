@@ -40,7 +40,7 @@ slice-aggregate-same : tie.Need-slice-aggregate-same Inv-loop μ-loop
 slice-aggregate-same c = sym (c .before .loop .inv .0 .four)
 
 same-requires : tie.Need-same-requires Inv-loop μ-loop
-same-requires c κs = (c .before .loop .inv .0 .four, c .before .before .before .before .before .before .pre .1 .four)
+same-requires c κs = (c .before .loop .inv .0 .four, c .before .before .before .before .before .before .pre .1)
 
 slice-aggregate-spread-walk : tie.Need-slice-aggregate-spread-walk Inv-loop μ-loop
 slice-aggregate-spread-walk c = sym (c .before .before .before .before .loop .inv .0 .four)
