@@ -1,9 +1,9 @@
-//! Where KUSILLAQE_BEFORE names an earlier archive of the library, links its check beside the present one, under another name.
+//! Where KUSILLAQE_BEFORE names an earlier archive of the library, links its check and its test beside the present ones, under other names.
 
 use std::path::PathBuf;
 use std::process::Command;
 
-const NAME: &str = "kusillaqe_check_before";
+const NAMES: [&str; 2] = ["kusillaqe_check", "kusillaqe_test"];
 
 fn main() {
     println!("cargo::rustc-check-cfg=cfg(before)");
@@ -13,9 +13,12 @@ fn main() {
     };
     println!("cargo::rerun-if-changed={archive}");
     let folder = PathBuf::from(std::env::var("OUT_DIR").expect("cargo sets it"));
-    let renamed = Command::new("objcopy")
-        .arg(format!("--redefine-sym=kusillaqe_check={NAME}"))
-        .arg(format!("--keep-global-symbol={NAME}"))
+    let mut objcopy = Command::new("objcopy");
+    for name in NAMES {
+        objcopy.arg(format!("--redefine-sym={name}={name}_before"));
+        objcopy.arg(format!("--keep-global-symbol={name}_before"));
+    }
+    let renamed = objcopy
         .arg(&archive)
         .arg(folder.join("libbefore.a"))
         .status();

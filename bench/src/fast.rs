@@ -47,7 +47,7 @@ struct Production<'a> {
 }
 
 pub fn run<const LEAVE_OUT: bool>(table: &[u8], limit: u32, entries: &mut Entries) -> Report {
-    let productions = productions(table);
+    let productions = taking(productions(table), two(table, 6));
     let mut run = Run::<LEAVE_OUT> {
         limit,
         entries,
@@ -102,6 +102,45 @@ fn productions(table: &[u8]) -> Vec<Production<'_>> {
         .collect()
 }
 
+impl Production<'_> {
+    fn right(&self) -> &[u16] {
+        &self.right[..self.n]
+    }
+}
+
+type Symbols = [bool; 256];
+
+/// The productions that take part: the left symbol is reached from the start, and each right symbol has a finite tree.
+fn taking(mut productions: Vec<Production<'_>>, start: u16) -> Vec<Production<'_>> {
+    let mut treed = [false; 256];
+    grow(&productions, &mut treed, |treed, production| {
+        let finite = has_all(treed, production.right());
+        finite && add(treed, production.left)
+    });
+    let mut reached = [false; 256];
+    reached[start as usize] = treed[start as usize];
+    grow(&productions, &mut reached, |reached, production| {
+        let leads = reached[production.left as usize] && has_all(&treed, production.right());
+        leads && production.right().iter().fold(false, |more, &symbol| add(reached, symbol) | more)
+    });
+    productions.retain(|production| reached[production.left as usize] && has_all(&treed, production.right()));
+    productions
+}
+
+/// Again and again over the productions, until nothing is added.
+fn grow(productions: &[Production], set: &mut Symbols, mut step: impl FnMut(&mut Symbols, &Production) -> bool) {
+    while productions.iter().fold(false, |more, production| step(set, production) | more) {}
+}
+
+fn has_all(set: &Symbols, symbols: &[u16]) -> bool {
+    symbols.iter().all(|&symbol| set[symbol as usize])
+}
+
+/// Whether the symbol was not there.
+fn add(set: &mut Symbols, symbol: u16) -> bool {
+    !std::mem::replace(&mut set[symbol as usize], true)
+}
+
 struct Run<'a, const LEAVE_OUT: bool> {
     limit: u32,
     entries: &'a mut Entries,
@@ -113,7 +152,7 @@ impl<const LEAVE_OUT: bool> Run<'_, LEAVE_OUT> {
     fn turn(&mut self, production: &Production) -> Option<Answer> {
         let stored = self.stored;
         let has = |symbol: &u16| self.entries.symbols[..stored].contains(symbol);
-        if !production.right[..production.n].iter().all(has) {
+        if !production.right().iter().all(has) {
             return None;
         }
         let mut own = [0u64; 64];

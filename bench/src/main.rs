@@ -1,9 +1,9 @@
 //! The proved library against a Rust program of the same passes, in one run: closures a second on each table, as a ratio; and how the
 //! time to an answer grows with the table where few closures are made. `bench [SECONDS]` for each measurement. The Rust program is
 //! measured twice: making every step of a closure, and leaving out those that change nothing, as the proved library does. `bench check
-//! [SECONDS [FILE..]]` measures the check alone.
+//! [SECONDS [FILE..]]` measures the check alone, and `bench answer` likewise the whole answer.
 
-mod check;
+mod beside;
 mod fast;
 
 use kusillaqe::{Answer, Entries, Node, Report};
@@ -17,7 +17,8 @@ const TURNS: u32 = 10;
 fn main() {
     let words: Vec<String> = std::env::args().skip(1).collect();
     match words.split_first() {
-        Some((word, rest)) if word == "check" => check::measure(seconds(rest), rest.get(1..).unwrap_or(&[])),
+        Some((word, rest)) if word == "check" => beside::checks(seconds(rest), rest.get(1..).unwrap_or(&[])),
+        Some((word, rest)) if word == "answer" => beside::answers(seconds(rest), rest.get(1..).unwrap_or(&[])),
         _ => tests(seconds(&words)),
     }
 }
@@ -42,7 +43,7 @@ fn tests(seconds: f64) {
     for count in [8, 64, 512] {
         small_work(&format!("{count} productions"), &chain(count), seconds);
     }
-    small_work("starved production", &write(&known::starved()), seconds);
+    small_work("starved production", &write(&known::starved_circular()), seconds);
     small_work("58,904 bytes", &write(&known::full()), seconds);
 }
 
