@@ -18,10 +18,7 @@ fn main() {
         objcopy.arg(format!("--redefine-sym={name}={name}_before"));
         objcopy.arg(format!("--keep-global-symbol={name}_before"));
     }
-    let renamed = objcopy
-        .arg(&archive)
-        .arg(folder.join("libbefore.a"))
-        .status();
+    let renamed = objcopy.arg(&archive).arg(folder.join("libbefore.a")).status();
     assert!(renamed.is_ok_and(|status| status.success()), "objcopy of {archive}");
     println!("cargo::rustc-cfg=before");
     println!("cargo::rustc-link-search=native={}", folder.display());

@@ -56,7 +56,10 @@ fn answer(table: &[u8], lent: &mut Slices) {
 
 fn measure(what: &str, seconds: f64, tables: Vec<(String, Vec<u8>)>, now: Call, before: Call) {
     let heading = format!("{what} µs");
-    println!("{:<24} {:>9} {heading:>11} {:>11} {:>7}", "table", "bytes", "before µs", "ratio");
+    println!(
+        "{:<24} {:>9} {heading:>11} {:>11} {:>7}",
+        "table", "bytes", "before µs", "ratio"
+    );
     let mut lent = Slices {
         symbols: vec![0; ROOM],
         graphs: vec![0; ROOM],

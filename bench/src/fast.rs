@@ -121,7 +121,11 @@ fn taking(mut productions: Vec<Production<'_>>, start: u16) -> Vec<Production<'_
     reached[start as usize] = treed[start as usize];
     grow(&productions, &mut reached, |reached, production| {
         let leads = reached[production.left as usize] && has_all(&treed, production.right());
-        leads && production.right().iter().fold(false, |more, &symbol| add(reached, symbol) | more)
+        leads
+            && production
+                .right()
+                .iter()
+                .fold(false, |more, &symbol| add(reached, symbol) | more)
     });
     productions.retain(|production| reached[production.left as usize] && has_all(&treed, production.right()));
     productions
@@ -129,7 +133,10 @@ fn taking(mut productions: Vec<Production<'_>>, start: u16) -> Vec<Production<'_
 
 /// Again and again over the productions, until nothing is added.
 fn grow(productions: &[Production], set: &mut Symbols, mut step: impl FnMut(&mut Symbols, &Production) -> bool) {
-    while productions.iter().fold(false, |more, production| step(set, production) | more) {}
+    while productions
+        .iter()
+        .fold(false, |more, production| step(set, production) | more)
+    {}
 }
 
 fn has_all(set: &Symbols, symbols: &[u16]) -> bool {
