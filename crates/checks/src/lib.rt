@@ -4,7 +4,9 @@ ghost use Rattle.grammar.specs.Refusal.{refusal};
 ghost use Rattle.grammar.specs.Steps.{handedUp, symbolsCheck, productionsCheck, edgesCheck};
 use grammar::Broken;
 use grammar::Checked;
+use grammar::Edge;
 use grammar::HEADER_BYTES;
+use grammar::Node;
 use grammar::Read;
 
 // The refusal of the record i, handed up.
@@ -51,13 +53,21 @@ fn check_productions(table: &[u8]) -> Checked
     Checked::Good
 }
 
-// The first edge has none before it, and any stands in for it.
+// The first edge has none before it, and one of zeros stands in for it.
 fn check_edges(table: &[u8]) -> Checked
     ensures { λ r. ⌜ r ≡ edgesCheck (now (table .entry)) ⌝ }
 {
     let h = tables::header_of(table);
     let count = h.edges;
-    let mut before = tables::edge_at(table, 0);
+    let none = Node {
+        occurrence: 0,
+        attribute: 0,
+    };
+    let mut before = Edge {
+        production: 0,
+        source: none,
+        target: none,
+    };
     let mut i: u16 = 0;
     while i < count {
         let read = reads::read_edge(table, i as usize, before);

@@ -115,9 +115,14 @@ module _ (rule : ℕ → ℕ) (n i : ℕ) (l : i < n) {x r : Read} (a : Agrees x
   pub loop-goes : (y : Read) → (tagOf the-type y ≡ 3 → ⊥) → r ≡ y → firstBad rule (i + 1) (n - (i + 1)) ≡ firstBad rule i (n - i)
   loop-goes y h e = first-goes rule n i l (was-read x a y h e .0)
 
--- the edge that is read at i, after the edge before it
-pub reads-edge : (bs : List ℕ) (before : Edge) (i : ℕ) → i < E bs → before ≡ edge (grammarOf bs) (i - 1)
+-- the edge that is read at i, after the edge before it; any stands before the first
+pub reads-edge : (bs : List ℕ) (before : Edge) (i : ℕ) → i < E bs → (0 < i → before ≡ edge (grammarOf bs) (i - 1))
     → edgeRead (grammarOf bs) i before (edgeAt bs i) ≡ edgeRead (grammarOf bs) i (edge (grammarOf bs) (i - 1)) (edge (grammarOf bs) i)
-reads-edge bs before i l e =
-    ap (λ (b : Edge). edgeRead (grammarOf bs) i b (edgeAt bs i)) e
-    ∙ ap (edgeRead (grammarOf bs) i (edge (grammarOf bs) (i - 1))) (sym (edge-there bs i l))
+unfolding edgeRead inOrder
+reads-edge bs before i l e = ap (edgeRead (grammarOf bs) i before) (sym (edge-there bs i l)) ∙ go i e
+  where
+    go : (i : ℕ) → (0 < i → before ≡ edge (grammarOf bs) (i - 1))
+        → edgeRead (grammarOf bs) i before (edge (grammarOf bs) i)
+        ≡ edgeRead (grammarOf bs) i (edge (grammarOf bs) (i - 1)) (edge (grammarOf bs) i)
+    go zero e = refl
+    go (suc i) e = ap (λ (b : Edge). edgeRead (grammarOf bs) (suc i) b (edge (grammarOf bs) (suc i))) (e (omega arith))

@@ -1,20 +1,22 @@
 -- What stands at a number of the grammar that some bytes say, and how many records it has. Assumes nothing.
-use mathlib.Core.Path.{_≡_, sym, ap, _∙_}
+use mathlib.Core.Path.{_≡_, refl, sym, ap, _∙_}
 use mathlib.Core.List.{List, [], _∷_}
 use Prim.Native.Nat.{ℕ, _+_, _*_, _≤_, _<_, min}
 use native.Mathlib.Nat.{add-zero, add-assoc}
 use native.Mathlib.Decide.{decLt}
 use native.Mathlib.Omega.{arith}
-use lib.ListN.{length, getD, length-map, length-take, length-replicate}
+use lib.ListN.{length, getD, take, drop, length-map, length-take, length-replicate}
 use lib.Seq.{getD-take}
 use Rattle.numbers.specs.Number.{le2}
 use Rattle.numbers.specs.Lists.{upFrom}
-use Rattle.numbers.proofs.Bytes.{byte-past, le2-past}
+use Rattle.numbers.proofs.Bytes.{byte-past, le2-past, byte-in-part, le2-in-part}
+use Rattle.numbers.proofs.Keeping.{map-same}
 use Rattle.numbers.proofs.Ranges.{length-upFrom, at-below, at-past}
 use Rattle.grammar.specs.declared.Production.{Production}
 use Rattle.grammar.specs.Grammar.{symbol, production, rights, noSymbol, noProduction}
 use Rattle.grammar.specs.Table.{N, P, E, atSymbols, atProductions, atEdges, symbolIn, productionIn, edgeIn, grammarOf}
 use Rattle.grammar.specs.Rules.{edge, noEdge}
+use Rattle.grammar.specs.Reading.{headerOf}
 
 module _ (bs : List ℕ) where
   pub symbol-there : (s : ℕ) → s < N bs → symbol (grammarOf bs) s ≡ symbolIn bs (atSymbols + 2 * s)
@@ -89,6 +91,46 @@ module _ (bs : List ℕ) where
       ∷ []
   unfolding productionIn upFrom
   slots-are i = simp (add-zero, add-assoc)
+
+-- the front of some bytes has their header
+pub header-in-front : (bs : List ℕ) (n : ℕ) → 8 ≤ n → headerOf (take n bs) ≡ headerOf bs
+header-in-front bs n h =
+    let symbols = le2-in-part bs n 0 0 0 (omega arith) refl in
+    let productions = le2-in-part bs n 0 2 2 (omega arith) refl in
+    let edges = le2-in-part bs n 0 4 4 (omega arith) refl in
+    let start = le2-in-part bs n 0 6 6 (omega arith) refl in
+    λ t. record { symbols = symbols t; productions = productions t; edges = edges t; start = start t }
+
+-- a record of a part is that of the whole at its place
+module _ (bs : List ℕ) (n m i j : ℕ) where
+  pub production-in-part : i + 17 < n → m + i ≡ j → productionIn (take n (drop m bs)) i ≡ productionIn bs j
+  unfolding productionIn
+  production-in-part h e =
+      let left = le2-in-part bs n m i j (omega arith) e in
+      let count = le2-in-part bs n m (i + 2) (j + 2) (omega arith) (omega arith) in
+      let slots =
+      map-same
+      (λ k. le2 (take n (drop m bs)) (i + 4 + 2 * k))
+      (λ k. le2 bs (j + 4 + 2 * k))
+      0
+      7
+      (λ k l u. le2-in-part bs n m (i + 4 + 2 * k) (j + 4 + 2 * k) (omega arith) (omega arith)) in
+      λ t. record { left = left t; n = count t; slots = slots t }
+
+  pub edge-in-part : i + 5 < n → m + i ≡ j → edgeIn (take n (drop m bs)) i ≡ edgeIn bs j
+  unfolding edgeIn
+  edge-in-part h e =
+      let production = le2-in-part bs n m i j (omega arith) e in
+      let a = byte-in-part bs n m (i + 2) (j + 2) (omega arith) (omega arith) in
+      let b = byte-in-part bs n m (i + 2 + 1) (j + 2 + 1) (omega arith) (omega arith) in
+      let c = byte-in-part bs n m (i + 4) (j + 4) (omega arith) (omega arith) in
+      let d = byte-in-part bs n m (i + 4 + 1) (j + 4 + 1) (omega arith) (omega arith) in
+      λ t.
+      record {
+        production = production t;
+        source = record { occurrence = a t; attribute = b t };
+        target = record { occurrence = c t; attribute = d t };
+      }
 
 -- every production has seven slots, also one that is not there
 pub slots-seven : (bs : List ℕ) (p : ℕ) → length (production (grammarOf bs) p .slots) ≡ 7

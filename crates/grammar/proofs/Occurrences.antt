@@ -1,6 +1,5 @@
 -- The symbol at an occurrence, and the bit of an attribute, as the code finds them. Assumes nothing.
 use mathlib.Core.Path.{_≡_, refl, sym, ap, _∙_}
-use mathlib.Core.List.{List}
 use Prim.Native.Nat.{ℕ, zero, suc, _-_, _*_, _%_, _^_, _≤_, _<_}
 use native.Mathlib.Nat.{one-mul, div-eq-of-lt, lt-of-lt-of-le}
 use native.Mathlib.Omega.{arith}
@@ -10,10 +9,8 @@ use lib.Pow.{shl-exact, pow-mono}
 use lib.Seq.{getD-take}
 use Rattle.numbers.specs.Number.{bit}
 use Rattle.grammar.specs.declared.Production.{Production}
-use Rattle.grammar.specs.Grammar.{production, symbolAt}
-use Rattle.grammar.specs.Table.{P, grammarOf}
+use Rattle.grammar.specs.Grammar.{symbolAt}
 use Rattle.grammar.specs.Refusal.{allowed}
-use Rattle.grammar.proofs.Lookups.{production-none}
 
 module _ (p : Production) where
   pub at-left : (o : ℕ) → o ≡ 0 → p .left ≡ symbolAt p o
@@ -39,12 +36,6 @@ module _ (p : Production) where
   at-slot-none zero h l = absurd (h refl)
   at-slot-none (suc o) h l =
       sym (List·getD-eq-default (take (p .n) (p .slots)) 0 (omega (arith, length-take (p .n) (p .slots))))
-
--- no symbol stands at an occurrence of a production that is not there
-pub at-no-production : (bs : List ℕ) (p o : ℕ) → P bs ≤ p → 0 ≡ symbolAt (production (grammarOf bs) p) o
-unfolding symbolAt
-at-no-production bs p zero l = ap (λ (q : Production). q .left) (sym (production-none bs p l))
-at-no-production bs p (suc o) l = ap (λ (q : Production). symbolAt q (suc o)) (sym (production-none bs p l))
 
 -- ---- masks of 16 bits
 pub bit-beyond : (k x : ℕ) → x < 65536 → 15 < k → 0 ≡ bit k x

@@ -9,8 +9,7 @@ use native.Mathlib.Omega.{arith}
 use borrow.Author.Tests.{eq-eqb, ne-eqb}
 use lib.Dec.{eqb}
 use lib.Pow.{pow-pos}
-use lib.ListN.{length, getD, take, drop, length-take, length-drop}
-use lib.Seq.{getD-take, getD-drop}
+use lib.ListN.{length, take, drop, length-take, length-drop}
 use Rattle.numbers.specs.Lists.{upFrom, keep}
 use Rattle.numbers.proofs.Keeping.{upFrom-split, map-same, map-moved, keep-append, keep-none, keep-all}
 use Rattle.grammar.specs.declared.Edge.{Edge}
@@ -18,6 +17,7 @@ use Rattle.grammar.specs.Grammar.{edgesOf}
 use Rattle.grammar.specs.Table.{P, E, atEdges, total, edgeIn, edgesIn, grammarOf}
 use Rattle.grammar.specs.Search.{producing, further, seek, runStart, runEnd}
 use Rattle.grammar.specs.Reading.{runOf}
+use Rattle.grammar.proofs.Lookups.{edge-in-part}
 use Rattle.grammar.proofs.Seeking.{further-few, further-on, further-not, run-none, run-there}
 
 -- the edges from `at` on are of p or above, those before it are below p
@@ -146,26 +146,6 @@ module _ (bs : List ℕ) (sorted : (i j : ℕ) → i ≤ j → j < E bs → prod
 
 -- ---- the bytes of a run
 module _ (bs : List ℕ) (n m : ℕ) where
-  byte-in-part : (k j : ℕ) → k < n → m + k ≡ j → getD (take n (drop m bs)) k 0 ≡ getD bs j 0
-  byte-in-part k j h e = getD-take n (drop m bs) k 0 h ∙ getD-drop m bs k 0 ∙ ap (λ j. getD bs j 0) e
-
-  -- an edge of a part is the edge of the whole at its place
-  pub edge-in-part : (i j : ℕ) → i + 5 < n → m + i ≡ j → edgeIn (take n (drop m bs)) i ≡ edgeIn bs j
-  unfolding edgeIn
-  edge-in-part i j h e =
-      let a = byte-in-part i j (omega arith) e in
-      let b = byte-in-part (i + 1) (j + 1) (omega arith) (omega arith) in
-      let c = byte-in-part (i + 2) (j + 2) (omega arith) (omega arith) in
-      let d = byte-in-part (i + 2 + 1) (j + 2 + 1) (omega arith) (omega arith) in
-      let f = byte-in-part (i + 4) (j + 4) (omega arith) (omega arith) in
-      let g = byte-in-part (i + 4 + 1) (j + 4 + 1) (omega arith) (omega arith) in
-      λ t.
-      record {
-        production = a t + 256 * b t;
-        source = record { occurrence = c t; attribute = d t };
-        target = record { occurrence = f t; attribute = g t };
-      }
-
   pub edges-in-part :
       (k : ℕ)
       → n ≡ 6 * k
@@ -176,7 +156,7 @@ module _ (bs : List ℕ) (n m : ℕ) where
       let l : length (take n (drop m bs)) ≡ n = omega (arith, length-take n (drop m bs), length-drop m bs) in
       let q : length (take n (drop m bs)) / 6 ≡ k = omega (arith, l) in
       ap (λ j. map (λ i. edgeIn (take n (drop m bs)) (6 * i)) (upFrom 0 j)) q
-      ∙ map-same _ _ 0 k (λ i l u. edge-in-part (6 * i) (m + 6 * i) (omega arith) refl)
+      ∙ map-same _ _ 0 k (λ i l u. edge-in-part bs n m (6 * i) (m + 6 * i) (omega arith) refl)
 
 module _
     (bs : List ℕ)

@@ -2,16 +2,15 @@
 use mathlib.Core.Path.{_≡_, refl, sym, _∙_}
 use mathlib.Core.Bool.{Bool, true, false, cond}
 use mathlib.Core.List.{List, []}
-use Prim.Native.Nat.{ℕ, zero, suc, _+_, _-_, _*_, _%_, _^_, _≤_, _<_, min}
+use Prim.Native.Nat.{ℕ, zero, suc, _+_, _-_, _*_, _%_, _^_, _≤_, _<_}
 use native.Mathlib.Nat.{one-mul, not-suc-le-zero}
 use native.Mathlib.Numerals.{sub-one}
 use native.Mathlib.Omega.{arith}
 use borrow.Author.Tests.{lt-ltb, le-ltb, le-leb, lt-leb, leb-true}
 use lib.Pow.{shl-exact, pow-lt, pow-pos}
 use lib.Dec.{leb, ltb}
-use lib.ListN.{length, take, drop}
+use lib.ListN.{take, drop}
 use Rattle.numbers.specs.Lists.{both}
-use Rattle.numbers.proofs.Parts.{clipped}
 use Rattle.grammar.specs.Table.{P, E, atEdges}
 use Rattle.grammar.specs.Search.{producing, further, seek, runStart, runEnd}
 use Rattle.grammar.specs.Reading.{runOf}
@@ -83,13 +82,7 @@ module _ (bs : List ℕ) (p : ℕ) where
       → p < P bs
       → first ≡ runStart bs p
       → end ≡ seek 16 bs (p + 1) first
-      → first ≤ end
-      → take
-      (min (atEdges bs + 6 * end) (length bs) - min (atEdges bs + 6 * first) (length bs))
-      (drop (min (atEdges bs + 6 * first) (length bs)) bs)
-      ≡ runOf bs p
-  run-found first end h f e l =
-      let many : atEdges bs + 6 * end - (atEdges bs + 6 * first) ≡ 6 * (end - first) = omega arith in
+      → take (6 * (end - first)) (drop (atEdges bs + 6 * first) bs) ≡ runOf bs p
+  run-found first end h f e =
       let last : end ≡ runEnd bs p = rw f at e in
-      clipped bs (atEdges bs + 6 * first) (atEdges bs + 6 * end) (omega arith)
-      ∙ rw (many, last, f) (sym (run-there h))
+      rw (last, f) (sym (run-there h))

@@ -12,17 +12,19 @@ use Rattle.numbers.specs.Lists.{both}
 use Rattle.grammar.specs.declared.Header.{Header}
 use Rattle.grammar.specs.declared.Symbol.{Symbol}
 use Rattle.grammar.specs.declared.Edge.{Edge}
-use Rattle.grammar.specs.Grammar.{Grammar}
-use Rattle.grammar.specs.Table.{grammarOf}
-use Rattle.grammar.specs.Rules.{producer, symbolOf}
+use Rattle.grammar.specs.Grammar.{Grammar, symbol, symbolAt}
+use Rattle.grammar.specs.Table.{P, grammarOf}
+use Rattle.grammar.specs.Rules.{producer}
 use Rattle.grammar.specs.Refusal.{allowed, occurrencesOk, attributesOk, targetOk}
 use Rattle.grammar.specs.Reading.{headerOf}
 use Rattle.grammar.proofs.Lookups.{productions-many}
 
 module _ (bs : List ℕ) (e : Edge) (h : Header) (is : h ≡ headerOf bs) where
+  pub there : e .production < h .productions → e .production < P bs
+  there l = let many = ap (λ (x : Header). x .productions) is in omega arith
+
   pub is-there : e .production < h .productions → ltb (e .production) (length (grammarOf bs .productions)) ≡ true
-  is-there l = let many = ap (λ (x : Header). x .productions) is in
-      lt-ltb (e .production) (length (grammarOf bs .productions)) (omega (arith, productions-many bs))
+  is-there l = lt-ltb (e .production) (length (grammarOf bs .productions)) (omega (arith, productions-many bs, there l))
 
   pub not-there : h .productions ≤ e .production → ltb (e .production) (length (grammarOf bs .productions)) ≡ false
   not-there l = let many = ap (λ (x : Header). x .productions) is in
@@ -35,16 +37,21 @@ module _ (g : Grammar) (e : Edge) where
   occurrences-told n r is told =
       sym (told ∙ ap (λ (m : ℕ). both (leb (e .source .occurrence) m) (leb (e .target .occurrence) m)) is)
 
-  pub attributes-told : (s t : Symbol) (r : Bool) → s ≡ symbolOf g e (e .source) → t ≡ symbolOf g e (e .target)
+  -- the symbols at the source and at the target are read by their numbers, m and n
+  pub attributes-told : (m n : ℕ) (s t : Symbol) (r : Bool)
+      → m ≡ symbolAt (producer g e) (e .source .occurrence) → s ≡ symbol g m
+      → n ≡ symbolAt (producer g e) (e .target .occurrence) → t ≡ symbol g n
       → r ≡ both (ltb (e .source .attribute) (s .count)) (ltb (e .target .attribute) (t .count)) → attributesOk g e ≡ r
   unfolding attributesOk
-  attributes-told s t r is at told =
+  attributes-told m n s t r is source at target told =
+      let s-is = source ∙ ap (symbol g) is in
+      let t-is = target ∙ ap (symbol g) at in
       sym
       (told
-      ∙ λ i. both (ltb (e .source .attribute) (is i .count)) (ltb (e .target .attribute) (at i .count)))
+      ∙ λ i. both (ltb (e .source .attribute) (s-is i .count)) (ltb (e .target .attribute) (t-is i .count)))
 
-  pub target-told : (t : Symbol) (r : Bool) → t ≡ symbolOf g e (e .target)
+  pub target-told : (n : ℕ) (t : Symbol) (r : Bool) → n ≡ symbolAt (producer g e) (e .target .occurrence) → t ≡ symbol g n
       → r ≡ allowed (e .target .occurrence) (bit (e .target .attribute) (t .mask)) → targetOk g e ≡ r
   unfolding targetOk
-  target-told t r at told =
-      sym (told ∙ ap (λ (x : Symbol). allowed (e .target .occurrence) (bit (e .target .attribute) (x .mask))) at)
+  target-told n t r at target told =
+      sym (told ∙ ap (λ (x : Symbol). allowed (e .target .occurrence) (bit (e .target .attribute) (x .mask))) (target ∙ ap (symbol g) at))

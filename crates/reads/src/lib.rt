@@ -2,14 +2,14 @@
 use numbers::four_at;
 use numbers::two_at;
 ghost use mathlib.Core.Path.{_≡_};
-ghost use Prim.Native.Nat.{_≤_};
+ghost use Prim.Native.Nat.{_≤_, _<_};
 ghost use lib.Dec.{leb, ltb};
 ghost use lib.ListN.{take, drop};
 ghost use Rattle.numbers.specs.Number.{bit};
 ghost use Rattle.numbers.specs.Lists.{both, every, below};
 ghost use Rattle.grammar.specs.Grammar.{symbol, production, symbolAt};
-ghost use Rattle.grammar.specs.Table.{N, attributes, widthOf, grammarOf};
-ghost use Rattle.grammar.specs.Rules.{producer, symbolOf, key};
+ghost use Rattle.grammar.specs.Table.{N, P, attributes, widthOf, grammarOf};
+ghost use Rattle.grammar.specs.Rules.{key};
 ghost use Rattle.grammar.specs.Refusal.{
   countsOk,
   offsetsOk,
@@ -18,16 +18,14 @@ ghost use Rattle.grammar.specs.Refusal.{
   allowed,
   inOrder,
 };
-ghost use Rattle.grammar.specs.Reading.{headerOf, offsetsOf, edgeAt};
+ghost use Rattle.grammar.specs.Reading.{offsetsOf, edgeAt};
 ghost use Rattle.grammar.specs.Steps.{symbolRead, productionRead, edgeRead};
 use grammar::ATTRIBUTES;
 use grammar::Edge;
 use grammar::Head;
-use grammar::Header;
 use grammar::MOST_EDGES;
 use grammar::MOST_PRODUCTIONS;
 use grammar::MOST_SYMBOLS;
-use grammar::Node;
 use grammar::Offsets;
 use grammar::PRODUCTION_BYTES;
 use grammar::Production;
@@ -146,26 +144,23 @@ pub fn read_production(table: &[u8], p: usize) -> Read
 
 // Of what an edge's rules ask, the header and the offsets are read once, and of the production only the fields that are asked for.
 
-// How many right symbols the production of a number has, and 0 where there is none.
-fn rights_of(table: &[u8], h: Header, o: Offsets, p: usize) -> u16
-    requires { ⌜ (h ≡ headerOf (now table)) × (o ≡ offsetsOf (now table)) ⌝ }
+// How many right symbols the production of a number has.
+fn rights_of(table: &[u8], o: Offsets, p: u16) -> u16
+    requires { ⌜ (o ≡ offsetsOf (now table)) × (p < P (now table)) ⌝ }
     ensures { λ r. ⌜ r ≡ production (grammarOf (now (table .entry))) p .n ⌝ }
 {
-    if h.productions as usize <= p {
-        return 0;
-    }
-    two_at(table, o.productions as usize + PRODUCTION_BYTES * p + 2)
+    two_at(
+        table,
+        o.productions as usize + PRODUCTION_BYTES * (p as usize) + 2,
+    )
 }
 
 // The number of the symbol at an occurrence of the production of a number, which has n right symbols; 0 where there is none.
-fn symbol_at(table: &[u8], h: Header, o: Offsets, p: usize, n: u16, occurrence: u8) -> u16
-    requires { ⌜ (h ≡ headerOf (now table)) × (o ≡ offsetsOf (now table)) × (n ≡ production (grammarOf (now table)) p .n) ⌝ }
+fn symbol_at(table: &[u8], o: Offsets, p: u16, n: u16, occurrence: u8) -> u16
+    requires { ⌜ (o ≡ offsetsOf (now table)) × (p < P (now table)) × (n ≡ production (grammarOf (now table)) p .n) ⌝ }
     ensures { λ r. ⌜ r ≡ symbolAt (production (grammarOf (now (table .entry))) p) occurrence ⌝ }
 {
-    if h.productions as usize <= p {
-        return 0;
-    }
-    let at = o.productions as usize + PRODUCTION_BYTES * p;
+    let at = o.productions as usize + PRODUCTION_BYTES * (p as usize);
     if occurrence == 0 {
         return two_at(table, at);
     }
@@ -177,15 +172,6 @@ fn symbol_at(table: &[u8], h: Header, o: Offsets, p: usize, n: u16, occurrence: 
         return 0;
     }
     two_at(table, at + 4 + 2 * k)
-}
-
-// The symbol at an occurrence of the edge's production.
-fn symbol_of(table: &[u8], h: Header, o: Offsets, n: u16, e: Edge, x: Node) -> Symbol
-    requires { ⌜ (h ≡ headerOf (now table)) × (o ≡ offsetsOf (now table)) × (n ≡ producer (grammarOf (now table)) e .n) ⌝ }
-    ensures { λ r. ⌜ r ≡ symbolOf (grammarOf (now (table .entry))) e x ⌝ }
-{
-    let s = symbol_at(table, h, o, e.production as usize, n, x.occurrence);
-    tables::symbol_of(table, s as usize)
 }
 
 // Rule 11: both occurrences are in range, where the production has n right symbols.
@@ -268,12 +254,14 @@ pub fn read_edge(table: &[u8], i: usize, before: Edge) -> Read
         return Read::Refused(10);
     }
     let o = tables::offsets_of(table);
-    let n = rights_of(table, h, o, e.production as usize);
+    let n = rights_of(table, o, e.production);
     if !occurrences_ok(n, e) {
         return Read::Refused(11);
     }
-    let source = symbol_of(table, h, o, n, e, e.source);
-    let target = symbol_of(table, h, o, n, e, e.target);
+    let s = symbol_at(table, o, e.production, n, e.source.occurrence);
+    let t = symbol_at(table, o, e.production, n, e.target.occurrence);
+    let source = tables::symbol_of(table, s as usize);
+    let target = tables::symbol_of(table, t as usize);
     if !attributes_ok(e, source, target) {
         return Read::Refused(12);
     }

@@ -1,8 +1,10 @@
 // What stands at a number in a table.
 use numbers::byte_at;
+use numbers::smaller;
 use numbers::two_at;
 ghost use mathlib.Core.Path.{_≡_};
-ghost use Prim.Native.Nat.{_+_, _*_, _^_, _≤_, _<_, min};
+ghost use Prim.Native.Nat.{_+_, _*_, _^_, _≤_, _<_};
+ghost use lib.ListN.{take, drop};
 ghost use Rattle.grammar.specs.Grammar.{symbol, production};
 ghost use Rattle.grammar.specs.Table.{productionIn, nodeIn, edgeIn, grammarOf};
 ghost use Rattle.grammar.specs.Rules.{noEdge};
@@ -20,14 +22,27 @@ use grammar::SLOTS;
 use grammar::SYMBOL_BYTES;
 use grammar::Symbol;
 
+// What is there whole, a header or a record, is read out of a slice of its own length, which the compiler knows: then no byte is asked for
+// whether it is there. That is so only where such a slice has a call of its own, so each reader is called twice.
+
+fn header_from(bytes: &[u8]) -> Header
+    ensures { λ r. ⌜ r ≡ headerOf (now (bytes .entry)) ⌝ }
+{
+    Header {
+        symbols: two_at(bytes, 0),
+        productions: two_at(bytes, 2),
+        edges: two_at(bytes, 4),
+        start: two_at(bytes, 6),
+    }
+}
+
 pub fn header_of(table: &[u8]) -> Header
     ensures { λ r. ⌜ r ≡ headerOf (now (table .entry)) ⌝ }
 {
-    Header {
-        symbols: two_at(table, 0),
-        productions: two_at(table, 2),
-        edges: two_at(table, 4),
-        start: two_at(table, 6),
+    if HEADER_BYTES <= table.len() {
+        header_from(&table[..HEADER_BYTES])
+    } else {
+        header_from(table)
     }
 }
 
@@ -62,23 +77,44 @@ pub fn symbol_of(table: &[u8], s: usize) -> Symbol
     }
 }
 
-fn production_in(table: &[u8], at: usize) -> Production
-    requires { ⌜ at + 16 < 2 ^ 64 ⌝ }
-    ensures { λ r. ⌜ r ≡ productionIn (now (table .entry)) at ⌝ }
+// The part of a table of `size` bytes at `at`, as far as it is there.
+fn part_of(table: &[u8], at: usize, size: usize) -> &[u8]
+    requires { ⌜ at + size < 2 ^ 64 ⌝ }
+    ensures { λ r. ⌜ now r ≡ take size (drop at (now (table .entry))) ⌝ }
+{
+    let a = smaller(at, table.len());
+    let e = smaller(at + size, table.len());
+    &table[a..e]
+}
+
+fn production_from(bytes: &[u8]) -> Production
+    ensures { λ r. ⌜ r ≡ productionIn (now (bytes .entry)) 0 ⌝ }
 {
     let slots = [
-        two_at(table, at + 4),
-        two_at(table, at + 6),
-        two_at(table, at + 8),
-        two_at(table, at + 10),
-        two_at(table, at + 12),
-        two_at(table, at + 14),
-        two_at(table, at + 16),
+        two_at(bytes, 4),
+        two_at(bytes, 6),
+        two_at(bytes, 8),
+        two_at(bytes, 10),
+        two_at(bytes, 12),
+        two_at(bytes, 14),
+        two_at(bytes, 16),
     ];
     Production {
-        left: two_at(table, at),
-        n: two_at(table, at + 2),
+        left: two_at(bytes, 0),
+        n: two_at(bytes, 2),
         slots,
+    }
+}
+
+fn production_in(table: &[u8], at: usize) -> Production
+    requires { ⌜ at + 18 < 2 ^ 64 ⌝ }
+    ensures { λ r. ⌜ r ≡ productionIn (now (table .entry)) at ⌝ }
+{
+    let end = at + PRODUCTION_BYTES;
+    if end <= table.len() {
+        production_from(&table[at..end])
+    } else {
+        production_from(part_of(table, at, PRODUCTION_BYTES))
     }
 }
 
@@ -99,26 +135,37 @@ pub fn production_of(table: &[u8], p: usize) -> Production
     production_in(table, o.productions as usize + PRODUCTION_BYTES * p)
 }
 
-fn node_in(table: &[u8], at: usize) -> Node
+fn node_in(bytes: &[u8], at: usize) -> Node
     requires { ⌜ at + 1 < 2 ^ 64 ⌝ }
-    ensures { λ r. ⌜ r ≡ nodeIn (now (table .entry)) at ⌝ }
+    ensures { λ r. ⌜ r ≡ nodeIn (now (bytes .entry)) at ⌝ }
 {
     Node {
-        occurrence: byte_at(table, at),
-        attribute: byte_at(table, at + 1),
+        occurrence: byte_at(bytes, at),
+        attribute: byte_at(bytes, at + 1),
+    }
+}
+
+fn edge_from(bytes: &[u8]) -> Edge
+    ensures { λ r. ⌜ r ≡ edgeIn (now (bytes .entry)) 0 ⌝ }
+{
+    let source = node_in(bytes, 2);
+    let target = node_in(bytes, 4);
+    Edge {
+        production: two_at(bytes, 0),
+        source,
+        target,
     }
 }
 
 fn edge_in(table: &[u8], at: usize) -> Edge
-    requires { ⌜ at + 5 < 2 ^ 64 ⌝ }
+    requires { ⌜ at + 6 < 2 ^ 64 ⌝ }
     ensures { λ r. ⌜ r ≡ edgeIn (now (table .entry)) at ⌝ }
 {
-    let source = node_in(table, at + 2);
-    let target = node_in(table, at + 4);
-    Edge {
-        production: two_at(table, at),
-        source,
-        target,
+    let end = at + EDGE_BYTES;
+    if end <= table.len() {
+        edge_from(&table[at..end])
+    } else {
+        edge_from(part_of(table, at, EDGE_BYTES))
     }
 }
 
@@ -176,12 +223,6 @@ fn seek_from(table: &[u8], h: Header, o: Offsets, p: usize, from: usize) -> usiz
     at
 }
 
-fn within(at: usize, length: usize) -> usize
-    ensures { λ r. ⌜ r ≡ min at length ⌝ }
-{
-    if at < length { at } else { length }
-}
-
 // The edges of a production: one unbroken run of the table, handed out where it stands.
 pub fn run_of(table: &[u8], p: usize) -> &[u8]
     ensures { λ r. ⌜ now r ≡ runOf (now (table .entry)) p ⌝ }
@@ -193,7 +234,9 @@ pub fn run_of(table: &[u8], p: usize) -> &[u8]
     let o = offsets_of(table);
     let first = seek_from(table, h, o, p, 0);
     let end = seek_from(table, h, o, p + 1, first);
-    let a = within(o.edges as usize + EDGE_BYTES * first, table.len());
-    let e = within(o.edges as usize + EDGE_BYTES * end, table.len());
-    &table[a..e]
+    part_of(
+        table,
+        o.edges as usize + EDGE_BYTES * first,
+        EDGE_BYTES * (end - first),
+    )
 }

@@ -13,7 +13,6 @@ use Rattle.grammar.specs.Refusal.{edgeRule}
 use Rattle.grammar.specs.Steps.{handedUp, edgesCheck}
 use Rattle.grammar.proofs.First.{left, first-begins, first-ends}
 use Rattle.grammar.proofs.Handing.{edge-agrees, was-read, loop-stops, loop-goes, reads-edge}
-use Rattle.grammar.proofs.Lookups.{edge-there}
 use Rattle.grammar.proofs.Read.{the-type}
 use Rattle.checks.proofs.check_edges.Statement.{statement}
 use Rattle.checks.proofs.check_edges.Tie as tie
@@ -22,7 +21,7 @@ abbrev Inv-loop : tie.InvT-loop
 Inv-loop table count before₀ i₀ before i =
     (i ≤ count)
     × (count ≡ E table)
-    × (i < E table → before ≡ edge (grammarOf table) (i - 1))
+    × (i < E table → 0 < i → before ≡ edge (grammarOf table) (i - 1))
     × (left (edgeRule (grammarOf table)) (E table) i ≡ edgesCheck table)
 
 abbrev μ-loop : tie.MeasureT-loop
@@ -31,15 +30,12 @@ abbrev μ-loop : tie.MeasureT-loop
 header-of-requires : tie.Need-header-of-requires Inv-loop μ-loop
 header-of-requires c κs = search needs
 
-edge-at-requires : tie.Need-edge-at-requires Inv-loop μ-loop
-edge-at-requires c κs = search needs
-
 loop-holds : tie.Need-loop-holds Inv-loop μ-loop
 loop-holds c =
-    let bs = c .before .before .before .args .table .now in (
+    let bs = c .before .before .args .table .now in (
       search needs,
-      ap (λ h. h .edges) (c .before .header-of .ensures),
-      λ l. c .edge-at .ensures ∙ sym (edge-there bs 0 (omega arith)),
+      ap (λ h. h .edges) (c .header-of .ensures),
+      λ l z. absurd (omega arith),
       first-begins (edgeRule (grammarOf bs)) (E bs),
     )
 
@@ -57,7 +53,7 @@ handed-up-requires c κs = search needs
 
 returns : tie.Need-returns Inv-loop μ-loop
 returns c =
-    let bs = c .before .before .before .before .before .before .before .before .args .table .now in
+    let bs = c .before .before .before .before .before .before .before .args .table .now in
     let at = c .before .before .before .before .loop in
     let l : at .i < E bs = omega arith in
     let q = c .before .before .read-edge .ensures ∙ reads-edge bs (at .before) (at .i) l (at .inv .2 l) in
@@ -76,7 +72,7 @@ loop-less c = search needs
 
 loop-again : tie.Need-loop-again Inv-loop μ-loop
 loop-again c =
-    let bs = c .before .before .before .before .before .before .before .before .before .args .table .now in
+    let bs = c .before .before .before .before .before .before .before .before .args .table .now in
     let at = c .before .before .before .before .before .loop in
     let l : at .i < E bs = omega arith in
     let q = sym (c .before .before .before .read-edge .ensures ∙ reads-edge bs (at .before) (at .i) l (at .inv .2 l)) ∙ c .before .read .given .1 in
@@ -85,13 +81,13 @@ loop-again c =
     let back : at .i + 1 - 1 ≡ at .i = omega arith in (
       omega arith,
       at .inv .1,
-      λ u. rw back (cc),
+      λ u z. rw back (cc),
       loop-goes (edgeRule (grammarOf bs)) (E bs) (at .i) l a _ (λ e. omega arith) q ∙ at .inv .3,
     )
 
 returns-2 : tie.Need-returns-2 Inv-loop μ-loop
 returns-2 c =
-    let bs = c .before .before .before .before .before .args .table .now in
+    let bs = c .before .before .before .before .args .table .now in
     let at = c .before .loop in
     first-ends (edgeRule (grammarOf bs)) (E bs) (at .i) (omega arith) ∙ at .inv .3
 
@@ -102,7 +98,6 @@ check-edges-spec =
     Inv-loop
     μ-loop
     header-of-requires
-    edge-at-requires
     loop-holds
     cast-read-edge
     read-edge-requires

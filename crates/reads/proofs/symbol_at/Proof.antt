@@ -6,19 +6,10 @@ use Rattle.numbers.specs.Number.{le2}
 use Rattle.grammar.specs.Grammar.{production}
 use Rattle.grammar.specs.Table.{grammarOf}
 use Rattle.grammar.proofs.Lookups.{left-read, slot-read, slots-seven}
-use Rattle.grammar.proofs.Occurrences.{at-left, at-right, at-none, at-slot-none, at-no-production}
+use Rattle.grammar.proofs.Occurrences.{at-left, at-right, at-none, at-slot-none}
 use borrow.Author.Needs.{needs}
 use Rattle.reads.proofs.symbol_at.Statement.{statement}
 use Rattle.reads.proofs.symbol_at.Tie as tie
-
-cast-if1 : tie.Need-cast-if1
-cast-if1 c = search needs
-
-returns : tie.Need-returns
-returns c =
-    let s = c .before .before .before in
-    let many = ap (λ h. h .productions) (s .pre .0) in
-    at-no-production (s .args .table .now) (s .args .p) (s .args .occurrence) (omega arith)
 
 cast-at : tie.Need-cast-at
 cast-at c = search needs
@@ -32,14 +23,13 @@ add-at c = search needs
 two-at-requires : tie.Need-two-at-requires
 two-at-requires c κs = search needs
 
-returns-2 : tie.Need-returns-2
-returns-2 c =
-    let s = c .before .before .before .before .before .before in
-    let many = ap (λ h. h .productions) (s .pre .0) in
+returns : tie.Need-returns
+returns c =
+    let s = c .before .before .before .before in
     c .two-at .ensures
-    ∙ ap (λ o. le2 (s .args .table .now) (o .productions + 18 * s .args .p)) (s .pre .1)
-    ∙ left-read (s .args .table .now) (s .args .p) (omega arith)
-    ∙ at-left (production (grammarOf (s .args .table .now)) (s .args .p)) (s .args .occurrence) (c .before .if2 .taken)
+    ∙ ap (λ o. le2 (s .args .table .now) (o .productions + 18 * s .args .p)) (s .pre .0)
+    ∙ left-read (s .args .table .now) (s .args .p) (s .pre .1)
+    ∙ at-left (production (grammarOf (s .args .table .now)) (s .args .p)) (s .args .occurrence) (c .before .if1 .taken)
 
 sub-k : tie.Need-sub-k
 sub-k c = search needs
@@ -47,16 +37,16 @@ sub-k c = search needs
 cast-k : tie.Need-cast-k
 cast-k c = search needs
 
+returns-2 : tie.Need-returns-2
+returns-2 c =
+    let s = c .before .before .before .before in
+    let n = s .pre .2 in
+    at-none (production (grammarOf (s .args .table .now)) (s .args .p)) (s .args .occurrence) (c .before .if1 .left) (omega arith)
+
 returns-3 : tie.Need-returns-3
 returns-3 c =
-    let s = c .before .before .before .before .before .before in
-    let n = s .pre .2 in
-    at-none (production (grammarOf (s .args .table .now)) (s .args .p)) (s .args .occurrence) (c .before .if2 .left) (omega arith)
-
-returns-4 : tie.Need-returns-4
-returns-4 c =
-    let s = c .before .before .before .before .before .before .before in
-    at-slot-none (production (grammarOf (s .args .table .now)) (s .args .p)) (s .args .occurrence) (c .before .before .if2 .left)
+    let s = c .before .before .before .before .before in
+    at-slot-none (production (grammarOf (s .args .table .now)) (s .args .p)) (s .args .occurrence) (c .before .before .if1 .left)
     (omega (arith, slots-seven (s .args .table .now) (s .args .p)))
 
 add-two-at : tie.Need-add-two-at
@@ -71,33 +61,30 @@ add-two-at-2 c = search needs
 two-at-requires-2 : tie.Need-two-at-requires-2
 two-at-requires-2 c κs = search needs
 
-returns-5 : tie.Need-returns-5
-returns-5 c =
-    let s = c .before .before .before .before .before .before .before .before in
+returns-4 : tie.Need-returns-4
+returns-4 c =
+    let s = c .before .before .before .before .before .before in
     let n = s .pre .2 in
-    let many = ap (λ h. h .productions) (s .pre .0) in
     c .two-at2 .ensures
-    ∙ ap (λ o. le2 (s .args .table .now) (o .productions + 18 * s .args .p + 4 + 2 * (s .args .occurrence - 1))) (s .pre .1)
-    ∙ slot-read (s .args .table .now) (s .args .p) (omega arith) (s .args .occurrence - 1) (omega arith)
-    ∙ at-right (production (grammarOf (s .args .table .now)) (s .args .p)) (s .args .occurrence) (c .before .before .before .if2 .left) (omega arith)
+    ∙ ap (λ o. le2 (s .args .table .now) (o .productions + 18 * s .args .p + 4 + 2 * (s .args .occurrence - 1))) (s .pre .0)
+    ∙ slot-read (s .args .table .now) (s .args .p) (s .pre .1) (s .args .occurrence - 1) (omega arith)
+    ∙ at-right (production (grammarOf (s .args .table .now)) (s .args .p)) (s .args .occurrence) (c .before .before .before .if1 .left) (omega arith)
 
 pub symbol-at-spec : {M : Type 1} → statement M
 symbol-at-spec =
     tie.close
     (tie.spec
-    cast-if1
-    returns
     cast-at
     mul-at
     add-at
     two-at-requires
-    returns-2
+    returns
     sub-k
     cast-k
+    returns-2
     returns-3
-    returns-4
     add-two-at
     mul-two-at
     add-two-at-2
     two-at-requires-2
-    returns-5)
+    returns-4)

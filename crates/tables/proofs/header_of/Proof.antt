@@ -1,31 +1,33 @@
 -- `tables::header_of` meets its contract. Assumes nothing.
+use mathlib.Core.Path.{_∙_}
+use native.Mathlib.Omega.{arith}
 use borrow.Author.Needs.{needs}
+use lib.ListN.{length-take}
+use Rattle.grammar.proofs.Lookups.{header-in-front}
 use Rattle.tables.proofs.header_of.Statement.{statement}
 use Rattle.tables.proofs.header_of.Tie as tie
 
-two-at-requires : tie.Need-two-at-requires
-two-at-requires c κs = search needs
+slice-aggregate-header-from : tie.Need-slice-aggregate-header-from
+slice-aggregate-header-from c = omega (arith, length-take 24 (c .before .before .before .args .table .now))
 
-two-at-requires-2 : tie.Need-two-at-requires-2
-two-at-requires-2 c κs = search needs
+header-from-requires : tie.Need-header-from-requires
+header-from-requires c κs = search needs
 
-two-at-requires-3 : tie.Need-two-at-requires-3
-two-at-requires-3 c κs = search needs
-
-two-at-requires-4 : tie.Need-two-at-requires-4
-two-at-requires-4 c κs = search needs
+header-from-requires-2 : tie.Need-header-from-requires-2
+header-from-requires-2 c κs = search needs
 
 returns : tie.Need-returns
-returns c =
-    λ i.
-    record {
-      symbols = c .before .before .before .two-at .ensures i;
-      productions = c .before .before .two-at2 .ensures i;
-      edges = c .before .two-at3 .ensures i;
-      start = c .two-at4 .ensures i;
-    }
+returns c = c .header-from .ensures ∙ header-in-front (c .before .before .before .before .args .table .now) 24 (omega arith)
+
+returns-2 : tie.Need-returns-2
+returns-2 c = search needs
 
 pub header-of-spec : {M : Type 1} → statement M
 header-of-spec =
     tie.close
-    (tie.spec two-at-requires two-at-requires-2 two-at-requires-3 two-at-requires-4 returns)
+    (tie.spec
+    slice-aggregate-header-from
+    header-from-requires
+    header-from-requires-2
+    returns
+    returns-2)
