@@ -20,9 +20,13 @@ int main(void) {
     }
     struct kusillaqe_report report;
     kusillaqe_test(table, length, 1000000, symbols, ROOM, graphs, ROOM, productions, ROOM, kids, KUSILLAQE_MOST_RIGHT * ROOM, &report);
-    if (report.answer == KUSILLAQE_CIRCULAR)
-        printf("production %u closes a circle, after %u closures\n", report.value, report.closures);
-    else
+    if (report.answer != KUSILLAQE_CIRCULAR) {
         printf("answer %u, after %u closures\n", report.answer, report.closures);
+        return 0;
+    }
+    printf("production %u closes a circle, after %u closures\ncircle", report.value, report.closures);
+    for (uint32_t i = 0; i < report.circle.links; i++)
+        printf(" %u %s", report.circle.nodes[i], report.circle.marks[i] == KUSILLAQE_EDGE ? "edge" : "pair");
+    printf("\n");
     return 0;
 }

@@ -116,7 +116,7 @@ mod before {
     }
 
     pub fn answer(table: &[u8], lent: &mut Slices) {
-        // SAFETY: each slice is given with its own length, no two of them overlap, and a report is twelve numbers of 32 bits.
+        // SAFETY: each slice is given with its own length, no two of them overlap, and there is room for the numbers of a report.
         unsafe {
             kusillaqe_test_before(
                 table.as_ptr(),

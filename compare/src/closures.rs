@@ -1,21 +1,15 @@
 //! Random compound graphs of all sizes: the rows that the library closes against a search from each node.
 
-use kusillaqe::rows;
+use kusillaqe::rows::{self, Rows};
 use second::random::Random;
 use second::{graph, Edge, Production};
 
-const WIDTH: usize = 8;
+pub const WIDTH: usize = 8;
 
 pub fn case(seed: u64) -> Result<(), String> {
-    let mut random = Random::new(seed);
-    let production = production(&mut random);
-    let graphs: Vec<u64> = production.right.iter().map(|_| pairs(&mut random)).collect();
+    let (production, graphs) = drawn(&mut Random::new(seed));
     let occurrences = 1 + graphs.len();
-
-    let mut rows = rows::own_rows(&records(&production));
-    for (slot, &graph) in graphs.iter().enumerate() {
-        rows::place(&mut rows, graph, slot + 1);
-    }
+    let mut rows = rows_of(&production, &graphs);
     let links = graph::compound(&production, &graphs);
     same_rows("compound graph", &rows, &links)?;
 
@@ -29,6 +23,22 @@ pub fn case(seed: u64) -> Result<(), String> {
         return Err(format!("graph of the root: {}", closure.root_graph()));
     }
     Ok(())
+}
+
+/// A production, and a graph for each of its right symbols.
+pub fn drawn(random: &mut Random) -> (Production, Vec<u64>) {
+    let production = production(random);
+    let graphs = production.right.iter().map(|_| pairs(random)).collect();
+    (production, graphs)
+}
+
+/// The rows of its compound graph.
+pub fn rows_of(production: &Production, graphs: &[u64]) -> Rows {
+    let mut rows = rows::own_rows(&records(production));
+    for (slot, &graph) in graphs.iter().enumerate() {
+        rows::place(&mut rows, graph, slot + 1);
+    }
+    rows
 }
 
 /// Edges between any nodes, few or many: what is compared does not ask that a target is allowed.

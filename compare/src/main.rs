@@ -1,6 +1,7 @@
 //! Holds the proved library to the second program: `compare KIND COUNT SEED`. Case i of a run has the seed SEED + i, so that the first
 //! difference can be shown again alone.
 
+mod circles;
 mod closures;
 mod tables;
 mod tests;
@@ -14,7 +15,7 @@ fn main() {
         number(&words, 1),
         number(&words, 2),
     ) else {
-        eprintln!("compare KIND COUNT SEED, where KIND is closures, tables or tests");
+        eprintln!("compare KIND COUNT SEED, where KIND is circles, closures, tables or tests");
         std::process::exit(2);
     };
     let began = Instant::now();
@@ -39,6 +40,7 @@ type Case = fn(u64) -> Result<(), String>;
 
 fn case_of(kind: &str) -> Option<Case> {
     match kind {
+        "circles" => Some(circles::case),
         "closures" => Some(closures::case),
         "tables" => Some(tables::case),
         "tests" => Some(tests::case),

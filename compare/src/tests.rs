@@ -5,7 +5,7 @@
 use crate::tables::numbers;
 use kusillaqe::{raw, Answer, Entries, Refusal, Report};
 use second::random::Random;
-use second::{make, Outcome};
+use second::{make, Link, Mark, Outcome};
 use std::fmt::Write;
 
 const MOST_RIGHT: usize = 7;
@@ -95,7 +95,24 @@ fn wanted(outcome: &Outcome) -> raw::Report {
         entries: outcome.entries() as u32,
         passes: outcome.passes,
         root: outcome.root_kids.map(|kid| kid as u32),
+        circle: trail(&outcome.circle),
     }
+}
+
+/// The numbers of a path or a circle.
+pub fn trail(links: &[Link]) -> raw::Trail {
+    let mut trail = raw::Trail {
+        links: links.len() as u32,
+        ..raw::Trail::default()
+    };
+    for (place, link) in links.iter().enumerate() {
+        trail.nodes[place] = link.node as u32;
+        trail.marks[place] = match link.mark {
+            Mark::Edge => raw::EDGE,
+            Mark::Pair => raw::PAIR,
+        };
+    }
+    trail
 }
 
 /// A slice to lend, with some numbers before and behind it that are not lent.
@@ -181,7 +198,8 @@ fn lines(report: &Report) -> String {
         let _ = writeln!(text, "entry {number} symbol {symbol} {} graph {graph}", node(entry.node));
     }
     if let Answer::Circular(root) = report.answer {
-        let _ = writeln!(text, "root {}", node(root));
+        let circle: String = report.circle().map(|link| format!(" {link}")).collect();
+        let _ = writeln!(text, "root {}\ncircle{circle}", node(root));
     }
     text
 }

@@ -1,5 +1,6 @@
 //! What the test answers.
 
+use crate::circle::Link;
 use crate::entries::{Entries, Entry, Node, Stored};
 use crate::{Refusal, raw};
 use std::fmt;
@@ -26,6 +27,7 @@ pub struct Report<'a> {
     pub closures: u32,
     /// The passes begun.
     pub passes: u16,
+    circle: raw::Trail,
     stored: Stored<'a>,
 }
 
@@ -43,8 +45,31 @@ impl<'a> Report<'a> {
             answer,
             closures: report.closures,
             passes: report.passes as u16,
+            circle: report.circle,
             stored,
         })
+    }
+
+    /// The circle in the compound graph of the root: a shortest one, and of these the least when written from its smallest node. There are
+    /// no links where the answer is not circular.
+    ///
+    /// ```
+    /// use kusillaqe::{Entries, Link, Mark, test};
+    ///
+    /// let table = std::fs::read("../samples/b.table")?;
+    /// let mut entries = Entries::new(1024);
+    /// let report = test(&table, 1_000_000, &mut entries)?;
+    /// let link = |attribute, mark| Link { occurrence: 1, attribute, mark };
+    /// let circle: Vec<Link> = report.circle().collect();
+    /// assert_eq!(circle, [link(0, Mark::Pair), link(2, Mark::Edge), link(1, Mark::Pair), link(3, Mark::Edge)]);
+    ///
+    /// let nodes: Vec<u8> = circle.into_iter().map(Link::node).collect();
+    /// assert_eq!(nodes, [8, 10, 9, 11]);
+    /// # Ok::<(), Box<dyn std::error::Error>>(())
+    /// ```
+    pub fn circle(&self) -> impl ExactSizeIterator<Item = Link> + DoubleEndedIterator + use<> {
+        let circle = self.circle;
+        (0..circle.links as usize).map(move |place| Link::read(&circle, place))
     }
 
     /// The stored entries, by number.
@@ -88,6 +113,7 @@ impl fmt::Debug for Report<'_> {
             .field("closures", &self.closures)
             .field("entries", &self.stored.count())
             .field("passes", &self.passes)
+            .field("circle", &self.circle().collect::<Vec<_>>())
             .finish()
     }
 }

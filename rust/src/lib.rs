@@ -13,6 +13,9 @@
 //!         for kid in root.kids() {
 //!             println!("entry {}, production {}", kid.number, kid.node.production);
 //!         }
+//!         for link in report.circle() {
+//!             println!("{} from attribute {} of occurrence {}", link.mark, link.attribute, link.occurrence);
+//!         }
 //!     }
 //!     Answer::OutOfSteps => println!("{} closures are not enough", report.closures),
 //!     Answer::OutOfRoom => println!("room for {} entries is not enough", report.entries().len()),
@@ -28,6 +31,7 @@
 #![deny(missing_docs)]
 
 mod answer;
+mod circle;
 mod entries;
 mod library;
 pub mod raw;
@@ -35,6 +39,7 @@ mod refusal;
 pub mod rows;
 
 pub use answer::{Answer, Report};
+pub use circle::{Link, Mark};
 pub use entries::{Entries, Entry, Graph, MOST_ENTRIES, MOST_RIGHT, Node};
 pub use refusal::Refusal;
 

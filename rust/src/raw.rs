@@ -1,5 +1,5 @@
 //! The check and the test as the library has them: what is broken as two numbers, four slices of numbers, whose lengths may differ, and
-//! a report of twelve numbers. It is for programs that try the library; others call [`crate::check`] and [`crate::test`].
+//! a report that is all numbers. It is for programs that try the library; others call [`crate::check`] and [`crate::test`].
 
 use crate::library;
 
@@ -14,6 +14,14 @@ pub const OUT_OF_STEPS: u32 = 8;
 pub const OUT_OF_ROOM: u32 = 9;
 /// The answer's number where it is circular.
 pub const CIRCULAR: u32 = 255;
+
+/// The mark of a link that is a subtree's pair.
+pub const PAIR: u32 = 0;
+/// The mark of a link that is an edge of the production.
+pub const EDGE: u32 = 1;
+
+/// A compound graph has at most so many nodes, and a path or a circle in it so many links.
+pub const MOST_NODES: usize = 64;
 
 /// What a table breaks.
 #[repr(C)]
@@ -45,7 +53,30 @@ pub fn check_numbers(table: &[u8]) -> Broken {
     broken
 }
 
-/// The report's twelve numbers. Those of the root are 0 unless the answer is circular.
+/// A path or a circle in a compound graph, whose node 8o + a is attribute a of occurrence o.
+#[repr(C)]
+#[derive(Clone, Copy, Debug, PartialEq, Eq)]
+pub struct Trail {
+    /// How many links there are; 0 where there is no path, or no circle.
+    pub links: u32,
+    /// The node that each link leaves, and 0 in the places that are not used.
+    pub nodes: [u32; MOST_NODES],
+    /// The mark of each link, [`PAIR`] or [`EDGE`], and 0 in the places that are not used.
+    pub marks: [u32; MOST_NODES],
+}
+
+/// Without links.
+impl Default for Trail {
+    fn default() -> Trail {
+        Trail {
+            links: 0,
+            nodes: [0; MOST_NODES],
+            marks: [0; MOST_NODES],
+        }
+    }
+}
+
+/// The report's numbers. Those of the root are 0, and the circle has no links, unless the answer is circular.
 #[repr(C)]
 #[derive(Clone, Copy, Debug, Default, PartialEq, Eq)]
 pub struct Report {
@@ -62,6 +93,8 @@ pub struct Report {
     pub passes: u32,
     /// The entry numbers of the root's right symbols, and 0 in the slots that are not used.
     pub root: [u32; 7],
+    /// The circle in the compound graph of the root.
+    pub circle: Trail,
 }
 
 /// The circularity test with at most `limit` closures. Entry i has place i of the first three slices and seven places of `kids`, from
@@ -69,12 +102,15 @@ pub struct Report {
 /// slice, and the rest of it stays as it was.
 ///
 /// ```
-/// use kusillaqe::raw::{Report, test_slices};
+/// use kusillaqe::raw::{EDGE, PAIR, Report, test_slices};
 ///
 /// let table = std::fs::read("../samples/b.table")?;
 /// let (mut symbols, mut graphs, mut productions, mut kids) = ([9; 2], [9; 3], [9; 4], [9; 30]);
 /// let report = test_slices(&table, 3, &mut symbols, &mut graphs, &mut productions, &mut kids);
-/// assert_eq!(report, Report { answer: 255, value: 0, closures: 3, entries: 2, passes: 2, root: [0; 7] });
+/// let circle = report.circle;
+/// assert_eq!(report, Report { answer: 255, value: 0, closures: 3, entries: 2, passes: 2, root: [0; 7], circle });
+/// assert_eq!((circle.links, &circle.nodes[..5]), (4, &[8, 10, 9, 11, 0][..]));
+/// assert_eq!(&circle.marks[..5], &[PAIR, EDGE, PAIR, EDGE, 0]);
 /// assert_eq!((symbols, graphs, productions), ([1, 1], [2052, 2048, 9], [1, 2, 9, 9]));
 /// assert!(kids[..14] == [0; 14] && kids[14..] == [9; 16]);
 /// # Ok::<(), std::io::Error>(())
@@ -88,7 +124,7 @@ pub fn test_slices(
     kids: &mut [u16],
 ) -> Report {
     let mut report = Report::default();
-    // SAFETY: each slice is given with its own length, no two of them overlap, and `report` is twelve numbers of 32 bits.
+    // SAFETY: each slice is given with its own length, no two of them overlap, and `report` is 141 numbers of 32 bits.
     unsafe {
         library::kusillaqe_test(
             table.as_ptr(),

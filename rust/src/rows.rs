@@ -2,9 +2,13 @@
 //! attribute a of occurrence o.
 
 use crate::library;
+use crate::raw::Trail;
 
-/// A table of rows: bit j of row i says that an edge leads from node i to node j.
+/// A table of rows: bit j of row i says that a link leads from node i to node j.
 pub type Rows = [u64; 64];
+
+/// For each occurrence the mask of its symbol: bit a says that attribute a is inherited.
+pub type Masks = [u16; 8];
 
 /// The edges of some edge records, six bytes each.
 ///
@@ -64,6 +68,45 @@ pub fn close(rows: &mut Rows, occurrences: usize) {
 pub fn has_circle(rows: &Rows, occurrences: usize) -> bool {
     // SAFETY: `rows` is 64 numbers, which are only read.
     unsafe { library::kusillaqe_has_circle(rows, occurrences) }
+}
+
+/// The circle among the nodes of the first occurrences: a shortest one, and of these the least when written from its smallest node. A link
+/// is marked as an edge where by the masks an edge may lead to its end, and else as a pair.
+///
+/// ```
+/// use kusillaqe::raw::{EDGE, PAIR};
+/// use kusillaqe::rows::circle;
+///
+/// let mut rows = [0; 64];
+/// // Attribute 0 of occurrence 1 is inherited, and attribute 1 is not.
+/// (rows[8], rows[9]) = (1 << 9, 1 << 8);
+/// let found = circle(&rows, 2, &[0, 1, 0, 0, 0, 0, 0, 0]);
+/// assert_eq!((found.links, &found.nodes[..2], &found.marks[..2]), (2, &[8, 9][..], &[PAIR, EDGE][..]));
+/// ```
+pub fn circle(rows: &Rows, occurrences: usize, masks: &Masks) -> Trail {
+    let mut circle = Trail::default();
+    // SAFETY: `rows` and `masks` are 64 and 8 numbers, which are only read, and `circle` is 129 numbers of 32 bits.
+    unsafe { library::kusillaqe_circle(rows, occurrences, masks, &mut circle) };
+    circle
+}
+
+/// Likewise the shortest path of one or more links from one of these nodes to another or to itself, and of these the least. It has no links
+/// where there is no path, or no such node.
+///
+/// ```
+/// use kusillaqe::rows::path;
+///
+/// let mut rows = [0; 64];
+/// (rows[0], rows[1], rows[2]) = (1 << 1 | 1 << 2, 1 << 3, 1 << 3);
+/// let found = path(&rows, 1, &[0; 8], 0, 3);
+/// assert_eq!((found.links, &found.nodes[..2]), (2, &[0, 1][..]));
+/// assert_eq!(path(&rows, 1, &[0; 8], 3, 0).links, 0);
+/// ```
+pub fn path(rows: &Rows, occurrences: usize, masks: &Masks, from: usize, to: usize) -> Trail {
+    let mut path = Trail::default();
+    // SAFETY: as for `circle`.
+    unsafe { library::kusillaqe_path(rows, occurrences, masks, from, to, &mut path) };
+    path
 }
 
 /// The pairs among the nodes of the left symbol.

@@ -20,7 +20,10 @@ fn in_c() {
     bad[111] = 0;
     for (table, told) in [
         (&a[..], "answer 0, after 10 closures\n"),
-        (&b[..], "production 0 closes a circle, after 3 closures\n"),
+        (
+            &b[..],
+            "production 0 closes a circle, after 3 closures\ncircle 8 pair 10 edge 9 pair 11 edge\n",
+        ),
         (&b[..23], "rule 1 is broken\n"),
         (&bad[..], "rule 13 is broken, first by record 4\n"),
     ] {

@@ -1,10 +1,12 @@
 //! Compound graphs, their closures, circles, and the graph of the root.
 
-use crate::table::Production;
+use crate::table::{Edge, Production, MOST_RIGHT};
 
 /// Attribute numbers are below this, so a node is 8 times its occurrence
 /// plus its attribute.
-const WIDTH: usize = 8;
+pub const WIDTH: usize = 8;
+
+pub const MOST_NODES: usize = WIDTH * (1 + MOST_RIGHT);
 
 /// For each node, the nodes that a path of one or more links reaches.
 #[derive(Clone, Debug, PartialEq, Eq)]
@@ -42,13 +44,30 @@ pub fn pairs(graph: u64) -> Vec<(usize, usize)> {
     places.map(|place| (place / 8, place % 8)).collect()
 }
 
+/// The nodes of an edge's source and target.
+pub fn ends(edge: &Edge) -> (usize, usize) {
+    (
+        WIDTH * edge.source_occurrence + edge.source_attribute,
+        WIDTH * edge.target_occurrence + edge.target_attribute,
+    )
+}
+
+/// The edge between two nodes.
+pub fn edge(source: usize, target: usize) -> Edge {
+    Edge {
+        source_occurrence: source / WIDTH,
+        source_attribute: source % WIDTH,
+        target_occurrence: target / WIDTH,
+        target_attribute: target % WIDTH,
+    }
+}
+
 /// The links of the compound graph: the production's own edges, and each
 /// subtree's pairs at that subtree's occurrence.
 pub fn compound(production: &Production, graphs: &[u64]) -> Vec<Vec<usize>> {
     let mut links = vec![Vec::new(); WIDTH * (1 + production.right.len())];
     for edge in &production.edges {
-        let source = WIDTH * edge.source_occurrence + edge.source_attribute;
-        let target = WIDTH * edge.target_occurrence + edge.target_attribute;
+        let (source, target) = ends(edge);
         links[source].push(target);
     }
     for (slot, &graph) in graphs.iter().enumerate() {

@@ -1,8 +1,10 @@
-//! What a grammar has that takes no part, to see that made tables have it
-//! often.
+//! What a grammar has that takes no part, and what circles a compound graph
+//! has beside the one that is said, to see that made tables have it often.
 
-use crate::graph::compound_closure;
+use crate::circle::{shortest_circle, shortest_path};
+use crate::graph::{compound, compound_closure};
 use crate::parts::{all_finite, finite_symbols, met_symbols, taking_part};
+use crate::passes::Outcome;
 use crate::table::Grammar;
 use std::collections::BTreeSet;
 
@@ -84,4 +86,47 @@ pub fn count(grammars: &[Grammar]) -> [(Kind, usize, usize); 6] {
         let outside = own.clone().filter(|(_, outside)| *outside);
         (kind, own.count(), outside.count())
     })
+}
+
+/// The links of the root's compound graph where the answer is circular.
+pub fn root_links(grammar: &Grammar, outcome: &Outcome) -> Vec<Vec<usize>> {
+    let root = &grammar.productions[outcome.root_production];
+    let kids = &outcome.root_kids[..root.right.len()];
+    let graphs: Vec<_> = kids.iter().map(|&e| outcome.stored[e].graph).collect();
+    compound(root, &graphs)
+}
+
+/// Whether there is more than one shortest circle. Each is met once from each
+/// of its nodes, if no link stands twice.
+pub fn has_ties(links: &[Vec<usize>]) -> bool {
+    let Some(circle) = shortest_circle(links) else {
+        return false;
+    };
+    let length = circle.len();
+    let met = (0..links.len()).map(|node| ways_back(links, node, length));
+    met.fold(0, u64::saturating_add) > length as u64
+}
+
+/// How many ways of so many links lead from a node to itself.
+fn ways_back(links: &[Vec<usize>], node: usize, length: usize) -> u64 {
+    let mut ways = vec![0; links.len()];
+    ways[node] = 1_u64;
+    for _ in 0..length {
+        let mut longer = vec![0; links.len()];
+        for (from, all) in links.iter().enumerate() {
+            for &to in all {
+                longer[to] = ways[from].saturating_add(longer[to]);
+            }
+        }
+        ways = longer;
+    }
+    ways[node]
+}
+
+/// Whether the smallest node on any circle lies on longer ones only, so that
+/// the first circle that a search meets is not the shortest.
+pub fn is_met_late(links: &[Vec<usize>]) -> bool {
+    let first = (0..links.len()).find_map(|node| shortest_path(links, node, node));
+    let length = |circle: Option<Vec<usize>>| circle.map(|nodes| nodes.len());
+    length(first) > length(shortest_circle(links))
 }

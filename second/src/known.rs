@@ -1,6 +1,7 @@
 //! Grammars with known counts, and families of any size up to the limits.
 
-use crate::table::{Edge, Grammar, Production, Symbol};
+use crate::circle::around;
+use crate::table::{Edge, Grammar, Production, Symbol, MOST_RIGHT};
 use std::ops::Range;
 
 /// An edge as source occurrence and attribute, target occurrence and
@@ -434,6 +435,54 @@ pub fn part_of_full(range: Range<usize>) -> Grammar {
     grammar
 }
 
+/// The longest circle there can be, through all 64 nodes. S has eight
+/// synthesized attributes. S → X X X X X X X leads through two of them, then
+/// from the last X to the first, into an inherited attribute of each and out
+/// of a synthesized one, to which the leaf has a pair; and so four times.
+pub fn ring() -> Grammar {
+    let k = 4;
+    let mut nodes = Vec::new();
+    for j in 0..k {
+        nodes.extend([(0, 2 * j), (0, 2 * j + 1)]);
+        for child in (1..=MOST_RIGHT).rev() {
+            nodes.extend([(child, j), (child, k + j)]);
+        }
+    }
+    let links = around(&nodes).map(|(from, to)| (from.0, from.1, to.0, to.1));
+    let edges = links.filter(|&(_, _, occurrence, attribute)| occurrence == 0 || attribute < k);
+    let edges: Vec<_> = edges.collect();
+    let mut grammar = family(k);
+    grammar.symbols[S] = symbol("ssssssss");
+    grammar.productions = vec![
+        production(S, &[X; MOST_RIGHT], &edges),
+        leaf(&straight(k), k),
+    ];
+    grammar
+}
+
+/// Four shortest circles: 8, 11, 16, 18 is the least, 8, 11, 16, 19 and
+/// 8, 11, 17, 18 differ from it late, and 9, 10, 24, 26 begins later. Node 0
+/// lies on a longer circle, and so does 10 together with 8.
+pub fn ties() -> Grammar {
+    let mut grammar = family(2);
+    grammar.symbols[S] = symbol("sssss");
+    let left = (0..5).map(|j| (0, j, 0, (j + 1) % 5));
+    let right = [
+        (1, 2, 3, 0),
+        (1, 3, 2, 0),
+        (1, 3, 2, 1),
+        (2, 2, 1, 0),
+        (2, 3, 1, 0),
+        (3, 2, 1, 1),
+        (3, 3, 2, 0),
+    ];
+    grammar.productions = vec![
+        production(S, &[X; 3], &left.chain(right).collect::<Vec<_>>()),
+        leaf(&[(0, 0), (0, 1), (1, 0)], 2),
+    ];
+    grammar
+}
+
 /// The grammars that are written out as samples, with their names.
 pub fn samples() -> Vec<(&'static str, Grammar)> {
     vec![
@@ -458,5 +507,7 @@ pub fn samples() -> Vec<(&'static str, Grammar)> {
         ("chain", chain()),
         ("chain-circular", chain_circular()),
         ("chain-startless", chain_startless()),
+        ("ring", ring()),
+        ("ties", ties()),
     ]
 }

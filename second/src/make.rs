@@ -1,8 +1,10 @@
 //! Makes tables from a seed: the same seed gives the same table.
 
 use crate::damage::{self, damage};
+use crate::graph::MOST_NODES;
 use crate::known;
 use crate::random::Random;
+use crate::rings;
 use crate::table::{
     self, Edge, Grammar, Production, Symbol, MOST_ATTRIBUTES, MOST_EDGES, MOST_PRODUCTIONS,
     MOST_RIGHT, MOST_SYMBOLS,
@@ -39,7 +41,7 @@ pub enum Parts {
 pub fn case(seed: u64) -> Vec<u8> {
     let random = &mut Random::new(seed);
     let inner = random.draw();
-    match random.below(16) {
+    match random.below(17) {
         0..=2 => tiny(inner),
         3..=5 => lively(inner),
         6..=7 => small(inner),
@@ -47,6 +49,7 @@ pub fn case(seed: u64) -> Vec<u8> {
         9 => border(inner),
         10 => known_table(inner),
         11 => maps(inner),
+        12 => ring(inner),
         _ => damaged(inner),
     }
 }
@@ -75,13 +78,14 @@ pub fn limits(seed: u64) -> (u32, usize) {
 pub fn valid(seed: u64) -> Vec<u8> {
     let random = &mut Random::new(seed);
     let inner = random.draw();
-    match random.below(16) {
+    match random.below(17) {
         0..=3 => tiny(inner),
         4..=7 => lively(inner),
         8..=10 => small(inner),
         11 => large(inner),
         12 => border(inner),
         13 => known_table(inner),
+        14 => ring(inner),
         _ => maps(inner),
     }
 }
@@ -275,6 +279,27 @@ pub fn crowd(seed: u64) -> Vec<u8> {
         lists.push(pairs.map(|pair| (pair / k, pair % k)).collect());
     }
     table::write(&known::joined(k, &lists))
+}
+
+/// A circular table with circles of some length.
+pub fn ring(seed: u64) -> Vec<u8> {
+    let random = &mut Random::new(seed);
+    let length = random.between(1, MOST_NODES);
+    ring_of(random, length)
+}
+
+/// The same, where the shortest circle has this length, or more if not all
+/// the pairs are there yet when it is found.
+pub fn ring_of(random: &mut Random, length: usize) -> Vec<u8> {
+    table::write(&rings::grammar(random, length))
+}
+
+/// A production whose edges lie between any nodes, with a shortest circle of
+/// this length, from 1 to 64, or of some length.
+pub fn ring_graph(seed: u64, length: Option<usize>) -> Production {
+    let random = &mut Random::new(seed);
+    let any = random.between(1, MOST_NODES);
+    rings::production(random, length.unwrap_or(any))
 }
 
 /// A table damaged in one of many ways; now and then it is still taken.

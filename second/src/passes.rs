@@ -1,5 +1,6 @@
 //! The passes, with any closure limit and any room.
 
+use crate::circle::{marked_circle, Link};
 use crate::graph::compound_closure;
 use crate::parts::taking_part;
 use crate::table::{self, Grammar, Refusal, MOST_RIGHT};
@@ -26,8 +27,8 @@ pub struct Entry {
     pub kids: [usize; MOST_RIGHT],
 }
 
-/// The root's production and entry numbers are 0 unless the answer is
-/// circular.
+/// The root's production and entry numbers are 0 and the circle is empty
+/// unless the answer is circular.
 #[derive(Clone, Debug, PartialEq, Eq)]
 pub struct Outcome {
     pub answer: Answer,
@@ -35,6 +36,7 @@ pub struct Outcome {
     pub passes: u32,
     pub root_production: usize,
     pub root_kids: [usize; MOST_RIGHT],
+    pub circle: Vec<Link>,
     pub stored: Vec<Entry>,
 }
 
@@ -59,6 +61,7 @@ impl Outcome {
             passes: 0,
             root_production: 0,
             root_kids: [0; MOST_RIGHT],
+            circle: Vec::new(),
             stored: Vec::new(),
         }
     }
@@ -153,6 +156,7 @@ impl Run<'_> {
         if closure.has_circle() {
             self.outcome.root_production = number;
             self.outcome.root_kids = seven_slots(kids);
+            self.outcome.circle = marked_circle(production, &graphs);
             return Some(Answer::Circular);
         }
         let entry = Entry {

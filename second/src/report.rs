@@ -1,5 +1,6 @@
 //! What `circ` prints.
 
+use crate::circle::Link;
 use crate::passes::{run_grammar, Answer, Outcome};
 use crate::table::{self, Grammar, Refusal};
 use std::fmt::Write;
@@ -19,12 +20,12 @@ pub fn refused(refusal: Refusal) -> String {
 
 /// The report on a run of this grammar.
 pub fn print(grammar: &Grammar, outcome: &Outcome) -> String {
-    first_line(outcome) + &entry_lines(grammar, outcome) + &root_line(grammar, outcome)
+    first_line(outcome) + &entry_lines(grammar, outcome) + &root_lines(grammar, outcome)
 }
 
 /// The same without the entry lines.
 pub fn print_short(grammar: &Grammar, outcome: &Outcome) -> String {
-    first_line(outcome) + &root_line(grammar, outcome)
+    first_line(outcome) + &root_lines(grammar, outcome)
 }
 
 fn first_line(outcome: &Outcome) -> String {
@@ -54,14 +55,23 @@ fn entry_lines(grammar: &Grammar, outcome: &Outcome) -> String {
     text
 }
 
-/// Nothing unless the answer is circular.
-fn root_line(grammar: &Grammar, outcome: &Outcome) -> String {
+/// The root and its circle; nothing unless the answer is circular.
+fn root_lines(grammar: &Grammar, outcome: &Outcome) -> String {
     if outcome.answer != Answer::Circular {
         return String::new();
     }
     let production = outcome.root_production;
     let kids = kids(grammar, production, &outcome.root_kids);
-    format!("root production {production} kids{kids}\n")
+    let circle = circle(&outcome.circle);
+    format!("root production {production} kids{kids}\ncircle{circle}\n")
+}
+
+/// Each node and the link that leaves it, both after a blank.
+fn circle(links: &[Link]) -> String {
+    links
+        .iter()
+        .map(|link| format!(" {} {}", link.node, link.mark))
+        .collect()
 }
 
 /// The entry numbers that count, each after a blank.

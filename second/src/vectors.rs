@@ -3,6 +3,7 @@
 
 use crate::damage::{damage, Damage, ALL};
 use crate::faults::{with_faults, Fault, OF_EDGES, OF_PRODUCTIONS, OF_SYMBOLS};
+use crate::graph::MOST_NODES;
 use crate::kinds::{has_circle_outside, kinds, Kind};
 use crate::known;
 use crate::make;
@@ -11,9 +12,10 @@ use crate::random::Random;
 use crate::report::{print, print_short, refused};
 use crate::table::{self, Grammar, Header, EDGE_BYTES, SYMBOL_BYTES};
 use std::collections::BTreeSet;
+use std::ops::RangeInclusive;
 
-/// A run of a table. Without entry lines only the first line and the root's
-/// are printed.
+/// A run of a table. Without entry lines only the first line, the root's and
+/// the circle's are printed.
 #[derive(Clone, Debug, PartialEq, Eq)]
 pub struct Run {
     pub limit: u32,
@@ -52,13 +54,16 @@ const MADE: [(Maker, usize, u32, u32); 7] = [
 /// How many tables whose circle comes late, and from which closure on.
 const LATE_CIRCLES: (usize, u32) = (120, 10);
 
+/// Lengths of circles, and how many tables for each.
+const RINGS: [(RangeInclusive<usize>, usize); 2] = [(1..=12, 5), (13..=MOST_NODES, 2)];
+
 /// How many noncircular tables for each kind of what takes no part, all with
 /// a circle there.
 const CIRCLES_OUTSIDE: usize = 25;
 
 /// How many tables for each kind of damage, and for each that is one of
 /// faults.
-const DAMAGED: usize = 85;
+const DAMAGED: usize = 60;
 const FAULTY: usize = 20;
 
 /// How many tables for each fault in the first, a middle and the last record;
@@ -93,6 +98,7 @@ pub fn cases(seed: u64) -> Vec<Case> {
     cases.extend(border_cases(random));
     cases.push(crowd_case(random));
     let mut rest = made_cases(random);
+    rest.extend(ring_cases(random));
     rest.extend(outside_cases(random));
     rest.extend(damaged_cases(random));
     rest.extend(faulty_cases(random));
@@ -320,6 +326,29 @@ fn made_cases(random: &mut Random) -> Vec<Case> {
         }));
     }
     cases
+}
+
+/// Tables whose circle has a given length.
+fn ring_cases(random: &mut Random) -> Vec<Case> {
+    let mut cases = Vec::new();
+    for (lengths, count) in RINGS {
+        for length in lengths {
+            for _ in 0..count {
+                cases.push(ring_case(random, length));
+            }
+        }
+    }
+    cases
+}
+
+/// Has few runs, since the circle is the same in all that say it.
+fn ring_case(random: &mut Random, length: usize) -> Case {
+    let make = |seed| make::ring_of(&mut Random::new(seed), length);
+    let mut case = draw(random, make, USUAL_MOST, |_, outcome| {
+        outcome.circle.len() == length
+    });
+    case.runs.truncate(3);
+    case
 }
 
 /// Tables that are circular where the wrong productions take part.

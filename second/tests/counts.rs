@@ -55,7 +55,8 @@ fn report_of_b() {
     let wanted = "circular closures 3 entries 2 passes 2\n\
                   entry 0 symbol 1 production 1 kids graph 2052\n\
                   entry 1 symbol 1 production 2 kids graph 2048\n\
-                  root production 0 kids 0\n";
+                  root production 0 kids 0\n\
+                  circle 8 pair 10 edge 9 pair 11 edge\n";
     assert_eq!(report(&write(&known::b()), 1_000_000, 1_024), wanted);
 }
 
@@ -140,6 +141,8 @@ fn small_known_grammars() {
     hold_freely(known::figure_1_circular(), (Circular, 3, 2, 2));
     hold_freely(known::chebotar(), (Noncircular, 0, 0, 1));
     hold_freely(known::chebotar_finite(), (Noncircular, 89, 16, 7));
+    hold_freely(known::ring(), (Circular, 2, 1, 2));
+    hold_freely(known::ties(), (Circular, 2, 1, 2));
 }
 
 #[test]

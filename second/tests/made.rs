@@ -7,6 +7,7 @@ use second::kinds::{self, Kind};
 use second::random::Random;
 use second::table::Header;
 use second::{make, read, refusal, run, write, Answer};
+use std::collections::BTreeSet;
 
 #[test]
 fn valid_tables_are_taken() {
@@ -22,6 +23,7 @@ fn valid_tables_are_taken() {
         assert_eq!(refusal(&make::maps(seed)), None, "maps {seed}");
         assert_eq!(refusal(&make::long(seed)), None, "long {seed}");
         assert_eq!(refusal(&make::sevens(seed)), None, "sevens {seed}");
+        assert_eq!(refusal(&make::ring(seed)), None, "ring {seed}");
         assert_eq!(refusal(&make::crowd(seed)), None, "crowd {seed}");
     }
 }
@@ -260,6 +262,15 @@ fn cases_have_every_kind() {
         assert!(count > 100, "{kind:?} {count}");
         assert!(outside > 20 || kind == Kind::Whole, "{kind:?} {outside}");
     }
+}
+
+/// Circles of most lengths from 1 to 64, though few tables have one of more
+/// than four links.
+#[test]
+fn cases_have_circles_of_many_lengths() {
+    let outcomes = (0..3000).map(|seed| run(&make::case(seed), 200, 200));
+    let lengths: BTreeSet<_> = outcomes.map(|outcome| outcome.circle.len()).collect();
+    assert!(lengths.len() > 50, "{lengths:?}");
 }
 
 /// The corpus leads to every answer.

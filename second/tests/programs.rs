@@ -22,6 +22,8 @@ fn circ2() {
     let circ2 = |input: &[u8]| call(env!("CARGO_BIN_EXE_circ2"), &[], input).stdout;
     let b = write(&known::b());
     assert_eq!(circ2(&b), second::report(&b, 1_000_000, 1_024).into_bytes());
+    let last = b"\ncircle 8 pair 10 edge 9 pair 11 edge\n";
+    assert!(circ2(&b).ends_with(last));
     assert_eq!(circ2(&b[..30]), b"refused 3\n");
     assert_eq!(circ2(&[]), b"refused 1\n");
     let mut bad = b.clone();

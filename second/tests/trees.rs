@@ -1,10 +1,11 @@
 //! The passes against the definition: whole trees and their attribute
 //! graphs.
 
+use second::circle::around;
 use second::parts::taking_part;
 use second::random::Random;
 use second::tree::Tree;
-use second::{graph, make, read, run_grammar, tree, Answer, Grammar, Outcome};
+use second::{graph, make, read, run_grammar, tree, Answer, Grammar, Mark, Outcome};
 use std::collections::{BTreeMap, BTreeSet};
 
 const LIMIT: u32 = 30_000;
@@ -56,6 +57,46 @@ fn shown_trees_have_circles() {
     }
     assert!(circular > 3000, "{circular}");
     assert!(below > 500, "{below}");
+}
+
+/// The links of the circle that is said are edges of the shown tree's root, and
+/// paths inside the trees below it.
+#[test]
+fn said_circles_lie_in_shown_trees() {
+    let rings = (0..300).map(|seed| {
+        let grammar = read(&make::ring(seed)).unwrap();
+        let outcome = run_grammar(&grammar, LIMIT, ROOM);
+        (seed, grammar, outcome)
+    });
+    let mut circular = 0;
+    for (seed, grammar, outcome) in verdicts(7000).chain(rings) {
+        if outcome.answer != Answer::Circular || tree::shown_nodes(&grammar, &outcome) > NODES {
+            continue;
+        }
+        let shown = tree::shown(&grammar, &outcome);
+        for (link, next) in around(&outcome.circle) {
+            let holds = match link.mark {
+                Mark::Edge => has_edge(&grammar, &shown, link.node, next.node),
+                Mark::Pair => has_pair(&grammar, &shown, link.node, next.node),
+            };
+            assert!(holds, "seed {seed}");
+        }
+        circular += 1;
+    }
+    assert!(circular > 1500, "{circular}");
+}
+
+/// Whether the production at the root has this edge.
+fn has_edge(grammar: &Grammar, tree: &Tree, from: usize, to: usize) -> bool {
+    let edges = &grammar.productions[tree.production].edges;
+    edges.contains(&graph::edge(from, to))
+}
+
+/// Whether a path leads from the first to the second in one tree below.
+fn has_pair(grammar: &Grammar, tree: &Tree, from: usize, to: usize) -> bool {
+    let below = &tree.below[from / 8 - 1];
+    let links = tree::attribute_graph(grammar, below);
+    from / 8 == to / 8 && graph::reached(&links, from % 8).contains(&(to % 8))
 }
 
 /// A tree rooted at the start symbol that has this one in it: above it one

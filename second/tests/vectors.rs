@@ -3,7 +3,7 @@
 use second::kinds::{self, Kind};
 use second::table::{number, Header};
 use second::vectors::{self, Case, Run};
-use second::{read, report};
+use second::{read, report, run_grammar, Mark};
 use std::path::Path;
 use std::process::Command;
 use std::sync::OnceLock;
@@ -94,9 +94,11 @@ impl First {
 
 fn first_lines() -> Vec<&'static str> {
     let lines = files().stdout.lines();
-    lines
-        .filter(|line| !line.starts_with("entry ") && !line.starts_with("root "))
-        .collect()
+    let is_first = |line: &&str| {
+        let later = ["entry ", "root ", "circle "];
+        !later.iter().any(|word| line.starts_with(word))
+    };
+    lines.filter(is_first).collect()
 }
 
 /// Each case with its runs and their first lines.
@@ -237,6 +239,56 @@ fn every_kind() {
         assert!(count >= 50, "{kind:?} {count}");
         assert!(outside >= 25 || kind == Kind::Whole, "{kind:?} {outside}");
     }
+}
+
+/// The circle comes behind the root, once for each run that is circular, also
+/// where entry lines are left out.
+#[test]
+fn circle_lines() {
+    let lines: Vec<_> = files().stdout.lines().collect();
+    let count = |word: &str| lines.iter().filter(|line| line.starts_with(word)).count();
+    assert_eq!(count("circle "), count("circular "));
+    assert_eq!(count("root "), count("circular "));
+    let (mut short, mut whole) = (0, 0);
+    for three in lines.windows(3) {
+        if three[2].starts_with("circle ") {
+            assert!(three[1].starts_with("root "));
+            let no_entries = three[0].contains(" entries 0 ");
+            short += usize::from(three[0].starts_with("circular ") && !no_entries);
+            whole += usize::from(three[0].starts_with("entry "));
+        }
+    }
+    assert!(short > 300 && whole > 150, "{short} {whole}");
+}
+
+/// Circles of every length, the short ones more often; where others are as
+/// short, and where a search from the smallest node meets a longer one first.
+#[test]
+fn every_circle() {
+    let mut lengths = [0; 65];
+    let (mut marks, mut ties, mut late) = ([0; 2], 0, 0);
+    for (case, runs) in answered() {
+        let Ok(grammar) = read(&case.table) else {
+            continue;
+        };
+        // The first run has what the table needs for a verdict.
+        let run = &runs[0].0;
+        let outcome = run_grammar(&grammar, run.limit, run.room.into());
+        if outcome.circle.is_empty() {
+            continue;
+        }
+        lengths[outcome.circle.len()] += 1;
+        for link in &outcome.circle {
+            marks[usize::from(link.mark == Mark::Pair)] += 1;
+        }
+        let links = kinds::root_links(&grammar, &outcome);
+        ties += usize::from(kinds::has_ties(&links));
+        late += usize::from(kinds::is_met_late(&links));
+    }
+    assert!(lengths[1..].iter().all(|&count| count >= 2), "{lengths:?}");
+    assert!(lengths[1..=12].iter().all(|&count| count >= 5));
+    assert!(marks.iter().all(|&count| count > 500), "{marks:?}");
+    assert!(ties > 100 && late > 20, "{ties} {late}");
 }
 
 #[test]

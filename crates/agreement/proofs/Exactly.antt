@@ -1,14 +1,15 @@
 -- A result that is true exactly if a statement holds, and when two values are the same. Assumes nothing.
 use mathlib.Core.Path.{_≡_, refl, sym, ap, ap₂, _∙_}
-use mathlib.Core.Bool.{Bool, true, false, true≢false}
+use mathlib.Core.Bool.{Bool, true, false, not, true≢false}
 use mathlib.Core.List.{List, [], _∷_, _++_}
 use mathlib.Core.Logic.{_↔_}
 use Prim.Native.Nat.{ℕ, _+_, _<_}
 use native.Mathlib.Numerals.{add-one}
 use native.Mathlib.Omega.{arith}
 use lib.ListN.{length, getD, take}
-use lib.Seq.{take-suc}
+use lib.Seq.{take-suc, take-all}
 use Rattle.grammar.specs.declared.Broken.the-variants.{Rule, Record}
+use Rattle.graph.specs.declared.Trail.{Trail}
 use Rattle.rules.specs.declared.Answer.{Answer}
 use Rattle.rules.specs.declared.Answer.the-variants.{Noncircular, Circular, Refused, OutOfSteps, OutOfRoom}
 use Rattle.rules.specs.declared.Entry.{Entry}
@@ -73,20 +74,40 @@ same-entry a b t s g p k = (
   λ e. k .1 (ap (λ (x : Entry). x .kids) e),
 )
 
+pub same-trail : (a b : Trail) (t : Bool) → a .len ≡ b .len → a .nodes ≡ b .nodes → (t ≡ true) ↔ (a .marks ≡ b .marks) → (t ≡ true) ↔ (a ≡ b)
+same-trail a b t l n k = (
+  λ e i. record { nodes = n i; marks = k .0 e i; len = l i },
+  λ e. k .1 (ap (λ (x : Trail). x .marks) e),
+)
+
 pub same-report : (a b : Report) (t : Bool) → caseOf (a .answer) ≡ caseOf (b .answer) → heldIn (a .answer) ≡ heldIn (b .answer)
     → recordIn (a .answer) ≡ recordIn (b .answer)
-    → a .closures ≡ b .closures → a .entries ≡ b .entries → a .passes ≡ b .passes → (t ≡ true) ↔ (a .root ≡ b .root)
-    → (t ≡ true) ↔ (a ≡ b)
-same-report a b t c h w l n p k = (
+    → a .closures ≡ b .closures → a .entries ≡ b .entries → a .passes ≡ b .passes → a .root ≡ b .root
+    → (t ≡ true) ↔ (a .circle ≡ b .circle) → (t ≡ true) ↔ (a ≡ b)
+same-report a b t c h w l n p r k = (
   λ e i. record {
     answer = same-answer (a .answer) (b .answer) c h w i;
     closures = l i;
     entries = n i;
     passes = p i;
-    root = k .0 e i;
+    root = r i;
+    circle = k .0 e i;
   },
-  λ e. k .1 (ap (λ (x : Report). x .root) e),
+  λ e. k .1 (ap (λ (x : Report). x .circle) e),
 )
+
+-- a test that is true exactly if P holds has said no, or yes
+pub said-no : {P : Type 0} (b : Bool) → (b ≡ true) ↔ P → not b ≡ true → ¬ P
+said-no true t h p = true≢false (sym h)
+said-no false t h p = true≢false (sym (t .1 p))
+
+pub said-yes : {P : Type 0} (b : Bool) → (b ≡ true) ↔ P → not b ≡ false → P
+said-yes true t h = t .0 refl
+said-yes false t h = absurd (true≢false h)
+
+-- two lists of the same length that begin the same as far as they go
+pub whole : (n : ℕ) (xs ys : List ℕ) → length xs ≡ n → length ys ≡ n → take n xs ≡ take n ys → xs ≡ ys
+whole n xs ys l m e = sym (take-all n xs (omega arith)) ∙ e ∙ take-all n ys (omega arith)
 
 -- the same beginning, and one more
 pub longer : (xs ys : List ℕ) (k : ℕ) → take k xs ≡ take k ys → getD xs k 0 ≡ getD ys k 0 → k < length xs → k < length ys

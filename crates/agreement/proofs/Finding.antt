@@ -13,12 +13,12 @@ use lib.Seq.{length-take-le, getD-take, take-all}
 use Rattle.numbers.proofs.Decides.{Decides, eq-decides, both-decides}
 use Rattle.grammar.specs.declared.Checked.{Checked}
 use Rattle.grammar.specs.declared.Checked.the-variants.{Good, Refused as Bad}
-use Rattle.grammar.specs.Table.{grammarOf}
+use Rattle.grammar.specs.Table.{widthOf, grammarOf}
 use Rattle.grammar.specs.Refusal.{refusal}
 use Rattle.rules.specs.declared.Entry.{Entry}
 use Rattle.rules.specs.Passes.{noEntry, entry, passes}
 use Rattle.parts.specs.Rule.{taking}
-use Rattle.rules.specs.Test.{systemIn, afterCheck, test}
+use Rattle.rules.specs.Test.{systemIn, saying, afterCheck, test}
 use Rattle.orders.specs.Stored.{Different}
 use Rattle.orders.proofs.Answers.{outcome-sound}
 use Rattle.rows.specs.Rows.{of}
@@ -30,7 +30,8 @@ pub different-test : (bs : List ℕ) (limit room : ℕ) → Different (test bs l
 unfolding test afterCheck
 different-test bs limit room = go (refusal bs)
   where
-    go : (c : Checked) → Different (afterCheck c (passes (systemIn bs) limit room (taking (grammarOf bs))) .entries)
+    go : (c : Checked)
+        → Different (afterCheck c (saying (widthOf bs) (grammarOf bs) (passes (systemIn bs) limit room (taking (grammarOf bs)))) .entries)
     go Good = outcome-sound (systemIn bs) (taking (grammarOf bs)) limit room .different
     go (Bad b) = λ i j l m s g. absurd (omega arith)
 

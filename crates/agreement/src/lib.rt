@@ -7,7 +7,9 @@ ghost use Rattle.rules.specs.Test as stated;
 ghost use Rattle.passes.specs.Slices.{atEntry, Tells};
 ghost use Rattle.agreement.specs.Agreement.{blankEntry, caseOf, heldIn, recordIn, AsTold, Alike, Tries};
 use grammar::Broken;
+use grammar::NODES;
 use grammar::SLOTS;
+use graph::Trail;
 use rules::Answer;
 use rules::Entry;
 use rules::MOST_ENTRIES;
@@ -36,6 +38,36 @@ fn same_slots(a: [u16; SLOTS], b: [u16; SLOTS]) -> bool
         k += 1;
     }
     true
+}
+
+// The same of the places of a circle.
+fn same_places(a: [u8; NODES], b: [u8; NODES]) -> bool
+    ensures { λ r. ⌜ (r ≡ true) ↔ (a ≡ b) ⌝ }
+{
+    let mut k: usize = 0;
+    while k < NODES {
+        if a[k] != b[k] {
+            return false;
+        }
+        k += 1;
+    }
+    true
+}
+
+fn same_trail(a: Trail, b: Trail) -> bool
+    ensures { λ r. ⌜ (r ≡ true) ↔ (a ≡ b) ⌝ }
+{
+    if a.len != b.len {
+        return false;
+    }
+    let nodes = a.nodes;
+    let others = b.nodes;
+    if !same_places(nodes, others) {
+        return false;
+    }
+    let marks = a.marks;
+    let rest = b.marks;
+    same_places(marks, rest)
 }
 
 fn same_entry(a: Entry, b: Entry) -> bool
@@ -126,7 +158,10 @@ fn same_report(a: Report, b: Report) -> bool
     }
     let root = a.root;
     let others = b.root;
-    same_slots(root, others)
+    if !same_slots(root, others) {
+        return false;
+    }
+    same_trail(a.circle, b.circle)
 }
 
 // Whether the record e at the place `at` is what it should be: the entry that the slices have there, which is found first at its own number

@@ -16,6 +16,7 @@ use libc::STDERR_FILENO;
 use libc::STDIN_FILENO;
 use libc::STDOUT_FILENO;
 use lines::LINE_BYTES;
+use print::OTHER_LINES;
 
 // The most closures, and the room for entries.
 const LIMIT: u32 = 1_000_000;
@@ -31,8 +32,8 @@ const TABLE_BYTES: usize = HEADER_BYTES
     + EDGE_BYTES * (MOST_EDGES as usize)
     + 1;
 
-// For the line of each entry, and for two more.
-const TEXT_BYTES: usize = LINE_BYTES * (ROOM + 2);
+// For the line of each entry, and for the others.
+const TEXT_BYTES: usize = LINE_BYTES * (ROOM + OTHER_LINES);
 
 // So many bytes at the front of a buffer, or none because a read failed.
 enum Input {

@@ -1,9 +1,10 @@
 // Graphs as rows of bits: a row for each attribute of the eight occurrences that a production has at most, and in it a bit for each.
 ghost use mathlib.Core.Path.{_≡_};
+ghost use mathlib.Core.List.{map};
 ghost use Prim.Native.Nat.{_*_, _+_, _<_, _≤_, min};
-ghost use lib.ListN.{length, take, replicate};
+ghost use lib.ListN.{length, getD, take, replicate};
 ghost use Rattle.grammar.specs.Table.{attributes, nodeIn, edgesIn};
-ghost use Rattle.graph.specs.Rows.{node, link, own, placed, through, hasCircle, rootGraph};
+ghost use Rattle.graph.specs.Rows.{node, link, own, placed, placedFrom, through, hasCircle, rootGraph};
 ghost use Rattle.graph.specs.Parts.{mostNodes, mapFirst, targetsTo, closedFirst};
 use grammar::ATTRIBUTES;
 use grammar::EDGE_BYTES;
@@ -67,6 +68,26 @@ pub fn place(rows: &mut [u64; NODES], graph: u64, occurrence: usize)
     ensures { λ _. ⌜ now (rows .exit) ≡ placed attributes occurrence graph (now (rows .entry)) ⌝ }
 {
     place_in(rows, graph, occurrence);
+}
+
+// The graph of a stored entry's number, and none where there is no such entry.
+fn graph_of(graphs: &[u64], number: u16) -> u64
+    ensures { λ r. ⌜ r ≡ getD (now (graphs .entry)) number 0 ⌝ }
+{
+    let i = number as usize;
+    if i < graphs.len() { graphs[i] } else { 0 }
+}
+
+// The pairs of the first `count` of the picked entries, each at its occurrence. Occurrence 0 is the left symbol.
+pub fn place_all(rows: &mut [u64; NODES], graphs: &[u64], picked: [u16; SLOTS], count: usize)
+    ensures { λ _. ⌜ now (rows .exit)
+        ≡ placedFrom attributes 1 (map (λ i. getD (now (graphs .entry)) i 0) (take count picked)) (now (rows .entry)) ⌝ }
+{
+    let most = numbers::smaller(count, SLOTS);
+    for k in 0..most {
+        let pairs = graph_of(graphs, picked[k]);
+        place(rows, pairs, k + 1);
+    }
 }
 
 // A row after the step through node k, whose row is `via`.

@@ -21,8 +21,11 @@ pub const ATTRIBUTES: usize = 8;
 
 pub const SLOTS: usize = 7;
 
+// The most occurrences of a production: its left symbol and the right ones.
+pub const OCCURRENCES: usize = SLOTS + 1;
+
 // The most nodes of a compound graph: an attribute of an occurrence each.
-pub const NODES: usize = ATTRIBUTES * (SLOTS + 1);
+pub const NODES: usize = ATTRIBUTES * OCCURRENCES;
 
 // Attributes 0 to `count` - 1; `mask` has a bit for each, set where it is inherited.
 pub struct Symbol {

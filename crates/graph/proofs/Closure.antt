@@ -17,9 +17,9 @@ use Rattle.graph.specs.Rows.{bits, join, through, step, stepsTo, closure
 
 -- ---- the steps are the ways
 
-join-bit : (b j via row : ℕ) → b < 2 → bit j (join b via row) ≡ max (bit j row) (min b (bit j via))
-join-bit zero j via row l = omega arith
-join-bit (suc b) j via row l = bit-or j row via ∙ omega (arith, bit-lt j via)
+pub join-bit : (b j via row : ℕ) → bit j (join b via row) ≡ max (bit j row) (min b (bit j via))
+join-bit zero j via row = omega arith
+join-bit (suc b) j via row = bit-or j row via ∙ omega (arith, bit-lt j via)
 
 step-at : (k : ℕ) (rows : List ℕ) (i : ℕ) → getD (step k rows) i 0 ≡ through k (getD rows k 0) (getD rows i 0)
 unfolding step through
@@ -32,7 +32,7 @@ pub step-bits : (k : ℕ) (rows : List ℕ) (i j : ℕ)
 unfolding through
 step-bits k rows i j =
     ap (bit j) (step-at k rows i)
-    ∙ join-bit (bits rows i k) j (getD rows k 0) (getD rows i 0) (bit-lt k (getD rows i 0))
+    ∙ join-bit (bits rows i k) j (getD rows k 0) (getD rows i 0)
 
 pub steps-ways : (k : ℕ) (rows : List ℕ) (i j : ℕ) → bits (stepsTo k rows) i j ≡ ways k (bits rows) i j
 unfolding stepsTo ways

@@ -187,6 +187,17 @@ placed-from-leads w o (g ∷ gs) rows l i j =
 
 -- ---- the compound graph
 
+length-placed-from : (w o : ℕ) (gs rows : List ℕ) → length (placedFrom w o gs rows) ≡ length rows
+unfolding placedFrom
+length-placed-from w o [] rows = refl
+length-placed-from w o (g ∷ gs) rows = length-placed-from w (suc o) gs (placed w o g rows) ∙ length-placed w o g w rows
+
+pub length-compound : (w : ℕ) (edges : List Edge) (graphs : List ℕ) → length (compound w edges graphs) ≡ w * suc (length graphs)
+unfolding compound
+length-compound w edges graphs =
+    let n = w * suc (length graphs) in
+    length-placed-from w 1 graphs (own w edges (replicate n 0)) ∙ length-own w edges (replicate n 0) ∙ length-replicate n 0
+
 no-rows : (n i j : ℕ) → Leads (bits (replicate n 0)) i j → ⊥
 no-rows zero i j h = omega (arith, bit-zero j)
 no-rows (suc n) zero j h = omega (arith, bit-zero j)
@@ -206,7 +217,7 @@ module _ (w : ℕ) (edges : List Edge) (graphs : List ℕ) (within : EdgesWithin
         ⊎-elim (λ q. all .1 (inl (owns .1 (inr q)))) (λ q. all .1 (inr q)),
       )
 
-  compound-paths : (i j : ℕ) → Plus (Leads (bits (compound w edges graphs))) i j ↔ Plus (CompoundEdge w edges graphs) i j
+  pub compound-paths : (i j : ℕ) → Plus (Leads (bits (compound w edges graphs))) i j ↔ Plus (CompoundEdge w edges graphs) i j
   compound-paths i j = (carried (λ x y. compound-leads x y .0), carried (λ x y. compound-leads x y .1))
 
   -- its closure finds a circle exactly if it has one

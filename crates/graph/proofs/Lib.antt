@@ -1,6 +1,19 @@
--- The laws that the loops of the code cite, and the theory of the closure and of the compound graph.
+-- The laws that the loops of the code cite, and the theory of the closure, of the compound graph, and of the shortest path and circle.
 pub mod Turns
 pub mod Closure
 pub mod Root
 pub mod Compound
 pub mod Parts
+pub mod Tables
+pub mod FirstFrom
+pub mod Levels
+pub mod Chains
+pub mod Simple
+pub mod LeastBetween
+pub mod PathFound
+pub mod CircleStart
+pub mod CircleFound
+pub mod OnlyOne
+pub mod Marks
+pub mod Trails
+pub mod Searching

@@ -1,21 +1,35 @@
 // The library for Rust and C: numbers, and slices and arrays of numbers.
 ghost use mathlib.Core.Path.{_≡_};
 ghost use Prim.Native.Nat.{_*_};
-ghost use lib.ListN.{take, replicate};
+ghost use lib.ListN.{length, take, replicate};
 ghost use Rattle.grammar.specs.Table.{attributes, edgesIn};
 ghost use Rattle.grammar.specs.Refusal.{refusal};
 ghost use Rattle.graph.specs.Rows.{own, placed, hasCircle, rootGraph};
 ghost use Rattle.graph.specs.Parts.{closedFirst};
+ghost use Rattle.graph.specs.Search.{pathOf, circleOf};
+ghost use Rattle.graph.specs.Trails.{trailOf, circleTrail};
 ghost use Rattle.rules.specs.Passes.{numberOf, valueOf};
 ghost use Rattle.passes.specs.Slices.{atEntry, atExit};
-ghost use Rattle.kusillaqe.specs.Flat.{flat, flatCheck, TestedFlat};
+ghost use Rattle.kusillaqe.specs.Flat.{flatCheck, trailNumbers, flatTrail, flat, TestedFlat};
 use grammar::Broken;
 use grammar::Checked;
+use grammar::NODES;
+use grammar::OCCURRENCES;
+use graph::Trail;
 use rules::Answer;
 use rules::Report;
 
 // Stands where there is no production and no record.
 const NONE: u32 = 4294967295;
+
+// How many numbers tell a path or a circle.
+const TRAIL: usize = 1 + 2 * NODES;
+
+// How many of a report's numbers stand before its circle.
+const FIRST: usize = 12;
+
+// How many numbers tell a report.
+const REPORT: usize = FIRST + TRAIL;
 
 fn wide(x: u16) -> u32
     ensures { λ r. ⌜ r ≡ x ⌝ }
@@ -75,28 +89,50 @@ fn value_of(answer: Answer) -> u32
     }
 }
 
-fn flat_of(r: Report) -> [u32; 12]
+// Of an element of an array only a function knows that it has 8 bits.
+fn number(x: u8) -> u32
+    ensures { λ r. ⌜ r ≡ x ⌝ }
+{
+    x as u32
+}
+
+fn flat_trail(trail: Trail, out: &mut [u32])
+    requires { ⌜ length (now out) ≡ trailNumbers ⌝ }
+    ensures { λ _. ⌜ now (out .exit) ≡ flatTrail trail ⌝ }
+{
+    let nodes = trail.nodes;
+    let marks = trail.marks;
+    out[0] = number(trail.len);
+    for i in 0..NODES {
+        out[1 + i] = number(nodes[i]);
+        out[1 + NODES + i] = number(marks[i]);
+    }
+}
+
+fn flat_of(r: Report) -> [u32; REPORT]
     ensures { λ out. ⌜ out ≡ flat r ⌝ }
 {
     let answer = r.answer;
     let kids = r.root;
-    [
-        number_of(answer),
-        value_of(answer),
-        r.closures,
-        wide(r.entries),
-        wide(r.passes),
-        wide(kids[0]),
-        wide(kids[1]),
-        wide(kids[2]),
-        wide(kids[3]),
-        wide(kids[4]),
-        wide(kids[5]),
-        wide(kids[6]),
-    ]
+    let circle = r.circle;
+    let mut out = [0u32; REPORT];
+    out[0] = number_of(answer);
+    out[1] = value_of(answer);
+    out[2] = r.closures;
+    out[3] = wide(r.entries);
+    out[4] = wide(r.passes);
+    out[5] = wide(kids[0]);
+    out[6] = wide(kids[1]);
+    out[7] = wide(kids[2]);
+    out[8] = wide(kids[3]);
+    out[9] = wide(kids[4]);
+    out[10] = wide(kids[5]);
+    out[11] = wide(kids[6]);
+    flat_trail(circle, &mut out[FIRST..]);
+    out
 }
 
-// The circularity test over four lent slices; the report is left in twelve numbers.
+// The circularity test over four lent slices; the report is left in numbers, its circle after the first twelve.
 #[no_mangle]
 pub extern "C" fn kusillaqe_test(
     table: &[u8],
@@ -105,7 +141,7 @@ pub extern "C" fn kusillaqe_test(
     graphs: &mut [u64],
     productions: &mut [u16],
     kids: &mut [u16],
-    report: &mut [u32; 12],
+    report: &mut [u32; REPORT],
 )
     ensures { λ _. ⌜ TestedFlat (now (table .entry)) limit
         (atEntry symbols graphs productions kids)
@@ -148,6 +184,39 @@ pub extern "C" fn kusillaqe_has_circle(rows: &[u64; 64], occurrences: usize) -> 
     ensures { λ r. ⌜ r ≡ hasCircle (take (attributes * occurrences) (now (rows .entry))) ⌝ }
 {
     closures::has_circle(rows, occurrences)
+}
+
+// The shortest circle among the nodes of the first occurrences, written from its smallest node, and of these the least. The masks of the
+// occurrences say what marks its links have.
+#[no_mangle]
+pub extern "C" fn kusillaqe_circle(
+    rows: &[u64; 64],
+    occurrences: usize,
+    masks: &[u16; OCCURRENCES],
+    circle: &mut [u32; TRAIL],
+)
+    ensures { λ _. ⌜ now (circle .exit) ≡ flatTrail
+        (circleTrail attributes (now (masks .entry)) (circleOf (take (attributes * occurrences) (now (rows .entry))))) ⌝ }
+{
+    let found = search::circle(rows, occurrences, *masks);
+    flat_trail(found, circle);
+}
+
+// The shortest path of one or more links from one of these nodes to another, and of these the least.
+#[no_mangle]
+pub extern "C" fn kusillaqe_path(
+    rows: &[u64; 64],
+    occurrences: usize,
+    masks: &[u16; OCCURRENCES],
+    from: usize,
+    to: usize,
+    path: &mut [u32; TRAIL],
+)
+    ensures { λ _. ⌜ now (path .exit) ≡ flatTrail
+        (trailOf attributes (now (masks .entry)) (pathOf (take (attributes * occurrences) (now (rows .entry))) from to) to) ⌝ }
+{
+    let found = search::path(rows, occurrences, *masks, from, to);
+    flat_trail(found, path);
 }
 
 // The pairs among the nodes of the left symbol.

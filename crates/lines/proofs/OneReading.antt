@@ -11,6 +11,10 @@ use Rattle.lines.proofs.put_entry.Kinds as put-entry-kinds
 use Rattle.lines.proofs.put_entry.Reads as put-entry-reads
 use Rattle.lines.proofs.put_root.Kinds as put-root-kinds
 use Rattle.lines.proofs.put_root.Reads as put-root-reads
+use Rattle.lines.proofs.put_link.Kinds as put-link-kinds
+use Rattle.lines.proofs.put_link.Reads as put-link-reads
+use Rattle.lines.proofs.put_word.Kinds as put-word-kinds
+use Rattle.lines.proofs.put_word.Reads as put-word-reads
 
 abbrev Back : Type 0
 Back = List ℕ × ℕ
@@ -27,3 +31,9 @@ one-reading-entry κs a x y s t p q = written-once p q
 
 pub one-reading-root : OneOutcome 1 put-root-kinds.ps put-root-kinds.r put-root-reads.Post {W = λ κs. Back} (λ κs r s. (now (s .0), r))
 one-reading-root κs a x y s t p q = written-once p q
+
+pub one-reading-link : OneOutcome 1 put-link-kinds.ps put-link-kinds.r put-link-reads.Post {W = λ κs. Back} (λ κs r s. (now (s .0), r))
+one-reading-link κs a x y s t p q = written-once p q
+
+pub one-reading-word : OneOutcome 2 put-word-kinds.ps put-word-kinds.r put-word-reads.Post {W = λ κs. Back} (λ κs r s. (now (s .0), r))
+one-reading-word κs a x y s t p q = written-once p q

@@ -6,7 +6,7 @@ use Prim.Native.Nat.{ℕ, _+_}
 use lib.Dec.{leb}
 use lib.ListN.{length, take, drop}
 
--- no line has more
+-- no line but the circle's has more
 abbrev pub lineBytes : ℕ
 lineBytes = 128
 

@@ -1,9 +1,10 @@
-// The lines that `circ` prints, each put whole into a buffer that the caller lends, or not at all.
+// The lines that `circ` prints, each put whole into a buffer that the caller lends, or not at all; that of the circle, which may be longer
+// than the others, piece by piece.
 ghost use mathlib.Core.Path.{_≡_};
 ghost use mathlib.Core.List.{_++_, []};
 ghost use Prim.Native.Nat.{_+_, _≤_};
 ghost use lib.ListN.{length, take, drop};
-ghost use Rattle.texts.specs.Lines.{ascii, newline, decimal, places, tagged, spaced, brokenNumbers, counts, answered, firstLine, kidsText, entryLine, rootLine};
+ghost use Rattle.texts.specs.Lines.{ascii, newline, decimal, places, tagged, spaced, brokenNumbers, counts, answered, firstLine, kidsText, entryLine, rootLine, linkText};
 ghost use Rattle.lines.specs.Buffer.{lineBytes, Written};
 ghost use Rattle.lines.specs.Pieces.{text, PieceAfter, LineIs};
 use grammar::Broken;
@@ -11,7 +12,7 @@ use grammar::SLOTS;
 use rules::Answer;
 use rules::Report;
 
-// No line has more.
+// No line but the circle's has more.
 pub const LINE_BYTES: usize = 128;
 
 // A line in the making: its text is the first `len` bytes. Each is made here, whole, before it is put.
@@ -51,6 +52,28 @@ pub fn put_root(buf: &mut [u8], at: usize, production: u16, root: [u16; SLOTS], 
 {
     let line = root_line(production, root, n);
     put_line(buf, at, line)
+}
+
+// A node of the circle and the link that leaves it.
+pub fn put_link(buf: &mut [u8], at: usize, node: u8, mark: u8) -> usize
+    ensures { λ r. ⌜ Written (linkText node mark) at (now (buf .entry)) (now (buf .exit)) r ⌝ }
+{
+    let line = link(node, mark);
+    put_line(buf, at, line)
+}
+
+pub fn put_word(buf: &mut [u8], at: usize, word: &[u8]) -> usize
+    ensures { λ r. ⌜ Written (now (word .entry)) at (now (buf .entry)) (now (buf .exit)) r ⌝ }
+{
+    let len = word.len();
+    if buf.len() < len {
+        return at;
+    }
+    if buf.len() - len < at {
+        return at;
+    }
+    copy(buf, at, word);
+    at + len
 }
 
 fn first_line(answer: Answer, closures: u32, entries: u16, passes: u16) -> Line
@@ -126,6 +149,16 @@ fn root_line(production: u16, root: [u16; SLOTS], n: usize) -> Line
     with_word(to_kids, b"\n")
 }
 
+fn link(node: u8, mark: u8) -> Line
+    ensures { λ r. ⌜ LineIs (linkText node mark) r ⌝ }
+{
+    let to_node = with_short(empty(), b" ", node as u16);
+    if mark == 1 {
+        return with_word(to_node, b" edge");
+    }
+    with_word(to_node, b" pair")
+}
+
 fn with_kids(line: Line, kids: [u16; SLOTS], n: usize) -> Line
     requires { ⌜ line .len + 47 ≤ lineBytes ⌝ }
     ensures { λ r. ⌜ PieceAfter (kidsText (take n kids)) 47 line r ⌝ }
@@ -198,15 +231,8 @@ fn put_line(buf: &mut [u8], at: usize, line: Line) -> usize
     ensures { λ r. ⌜ Written (text line) at (now (buf .entry)) (now (buf .exit)) r ⌝ }
 {
     let len = line.len;
-    if buf.len() < len {
-        return at;
-    }
-    if buf.len() - len < at {
-        return at;
-    }
     let bytes = line.bytes;
-    copy(buf, at, &bytes[..len]);
-    at + len
+    put_word(buf, at, &bytes[..len])
 }
 
 fn copy(dst: &mut [u8], at: usize, src: &[u8])

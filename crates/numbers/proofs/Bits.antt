@@ -106,7 +106,7 @@ bit-power k j = (
 
 -- ---- two numbers below 2 ^ k with the same bits are equal
 
-low-bit : (x : ℕ) → bit 0 x ≡ x % 2
+pub low-bit : (x : ℕ) → bit 0 x ≡ x % 2
 low-bit x = ap (λ (y : ℕ). y % 2) (div-one x)
 
 pub same-bits : (k x y : ℕ) → x < 2 ^ k → y < 2 ^ k → ((j : ℕ) → j < k → bit j x ≡ bit j y) → x ≡ y

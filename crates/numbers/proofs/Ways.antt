@@ -18,6 +18,15 @@ pub on : {A : Type 0} {E : A → A → Type 0} {x y z : A} → Plus E x y → Pl
 on p (one e) = snoc p e
 on p (snoc q e) = snoc (on p q) e
 
+module _ {A : Type 0} {E : A → A → Type 0} where
+  pub first-edge : {x y : A} → Plus E x y → (z : A) × E x z
+  first-edge (one {y = z} e) = (z, e)
+  first-edge (snoc p e) = first-edge p
+
+  pub last-edge : {x y : A} → Plus E x y → (z : A) × E z y
+  last-edge {x} (one e) = (x, e)
+  last-edge (snoc {y = z} p e) = (z, e)
+
 module _ (m : ℕ → ℕ → ℕ) (bits : (i j : ℕ) → m i j < 2) where
   -- a path from i to j, whose nodes between are below k
   abbrev Way : ℕ → ℕ → ℕ → Type 0

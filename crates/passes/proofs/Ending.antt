@@ -8,6 +8,7 @@ use native.Mathlib.Omega.{arith}
 use lib.ListN.{length, getD}
 use borrow.Author.Tests.{eq-eqb, ne-eqb}
 use Rattle.numbers.specs.Lists.{written}
+use Rattle.graph.specs.Trails.{noTrail}
 use Rattle.rules.specs.declared.Answer.{Answer}
 use Rattle.rules.specs.declared.Answer.the-variants.{Noncircular}
 use Rattle.rules.specs.declared.Entry.{Entry}
@@ -42,7 +43,7 @@ tells o room limit σ r τ q a root begun e k h =
     rw e
     (record {
       report =
-          ap (λ (n : ℕ). record { answer = a; closures = limit - q .left; entries = n; passes = begun; root = root })
+          ap (λ (n : ℕ). record { answer = a; closures = limit - q .left; entries = n; passes = begun; root = root; circle = noTrail })
           (sym (length-entries τ (q .stored)));
       symbols = field (λ x. x .symbol) (σ .symbols) (τ .symbols) (λ i. refl) (omega (arith, h .stored, h .symbols)) (k .symbols);
       graphs = field (λ x. x .graph) (σ .graphs) (τ .graphs) (λ i. refl) (omega (arith, h .stored, h .graphs)) (k .graphs);

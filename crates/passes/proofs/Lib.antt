@@ -10,4 +10,5 @@ pub mod Passing
 pub mod Ending
 pub mod Told
 pub mod Testing
+pub mod Circles
 pub mod OneReading

@@ -23,7 +23,7 @@ use Rattle.grammar.proofs.Lookups.{productions-many}
 use Rattle.grammar.proofs.Valid.{valid}
 use Rattle.graph.specs.Rows.{own, placedFrom, compound, closure, hasCircle, rootGraph}
 use Rattle.graph.specs.Compound.{Within, EdgesWithin}
-use Rattle.graph.proofs.Parts.{table-compound}
+use Rattle.graph.proofs.Tables.{few-rights, rows-made}
 use Rattle.steps.specs.declared.Course.the-variants.{Going}
 use Rattle.steps.specs.declared.Run.{Run}
 use Rattle.steps.specs.declared.Task.{Task}
@@ -50,46 +50,16 @@ module _ (bs : List ℕ) (good : refusal bs ≡ Good) where
   pub own-edges : (p : ℕ) → edgesIn (runOf bs p) ≡ edgesOf g p
   own-edges p = taken .runs p
 
-  few-attributes : (i : ℕ) → symbol g i .count ≤ 8
-  few-attributes i = go (decLe (suc i) (length (g .symbols)))
-    where
-      go : Dec (suc i ≤ length (g .symbols)) → symbol g i .count ≤ 8
-      go (yes l) = taken .symbols (symbol g i) (member-at noSymbol (g .symbols) i l) .count
-      go (no n) =
-          let e : symbol g i ≡ noSymbol = List·getD-eq-default (g .symbols) noSymbol (omega arith) in
-          rw e (omega arith)
-
-  node-within : (p : Production) (n : ℕ) (x : Node) → n ≡ p .n → NodeThere g p x → Within 8 n x
-  node-within p n x e h =
-      record {
-        occurrence = omega (arith, h .occurrence);
-        attribute = omega (arith, h .attribute, few-attributes (symbolAt p (x .occurrence)));
-      }
-
-  edges-within : (p n : ℕ) → n ≡ production g p .n → EdgesWithin 8 n (edgesOf g p)
-  edges-within p n e x m =
-      let w = keep-mem (λ y. eqb (y .production) p) (g .edges) m in
-      let q : n ≡ production g (x .production) .n = e ∙ ap (λ (i : ℕ). production g i .n) (sym (eqb-true (x .production) p (w .1))) in
-      let h = taken .edges x (w .0) in
-      (node-within (production g (x .production)) n (x .source) q (h .source), node-within (production g (x .production)) n (x .target) q (h .target))
-
   module _ (p : ℕ) (there : p < P bs) where
-    few : production g p .n ≤ 7
-    few = taken .productions (production g p) (member-at noProduction (g .productions) p (omega (arith, productions-many bs))) .few
-
-    -- the rows in a table of 64
-    made : (gs : List ℕ) → length gs ≡ production g p .n → take (8 * suc (length gs)) (placedFrom 8 1 gs (own 8 (edgesOf g p) (replicate 64 0))) ≡ compound 8 (edgesOf g p) gs
-    made gs h = table-compound 8 64 (edgesOf g p) gs (edges-within p (length gs) h) (omega (arith, h, few))
-
     pub agrees : (room first : ℕ) → Agrees (systemIn bs) (taskOf p (production g p) room first) (ownOf bs p)
     unfolding taskOf ownOf systemOf systemBy
     agrees room first =
         record {
           left = refl;
           rights = refl;
-          long = length-take-le (production g p .n) (production g p .slots) (omega (arith, few, slots-seven bs p));
-          graph = λ gs h. ap (λ (l : List ℕ). rootGraph 8 (closure l)) (made gs h);
-          circle = λ gs h. ap (λ (l : List ℕ). hasCircle (closure l)) (made gs h);
+          long = length-take-le (production g p .n) (production g p .slots) (omega (arith, few-rights bs good p, slots-seven bs p));
+          graph = λ gs h. ap (λ (l : List ℕ). rootGraph 8 (closure l)) (rows-made bs good p gs h);
+          circle = λ gs h. ap (λ (l : List ℕ). hasCircle (closure l)) (rows-made bs good p gs h);
         }
 
   -- a turn begins
@@ -101,7 +71,7 @@ module _ (bs : List ℕ) (good : refusal bs ≡ Good) where
         (record {
           roomy = h;
           first = le-refl (r .stored);
-          few = few p there;
+          few = few-rights bs good p;
           slots = slots-seven bs p;
           going = on;
         })

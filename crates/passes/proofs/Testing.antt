@@ -5,17 +5,19 @@ use Prim.Native.Nat.{ℕ}
 use Rattle.numbers.specs.Lists.{upFrom}
 use Rattle.grammar.specs.declared.Broken.{Broken}
 use Rattle.grammar.specs.declared.Checked.the-variants.{Good, Refused as Bad}
-use Rattle.grammar.specs.Table.{P, grammarOf}
+use Rattle.grammar.specs.Table.{P, widthOf, grammarOf}
 use Rattle.grammar.specs.Refusal.{refusal}
 use Rattle.grammar.proofs.Lookups.{productions-many}
 use Rattle.grammar.proofs.Valid.{valid}
+use Rattle.graph.specs.declared.Trail.{Trail}
+use Rattle.graph.specs.Trails.{noTrail}
 use Rattle.parts.specs.Sets.{Symbols}
 use Rattle.parts.specs.Rule.{treed, reached, taking, ifWhole}
 use Rattle.parts.proofs.Tables.{valid-whole}
 use Rattle.rules.specs.declared.Answer.the-variants.{Refused}
 use Rattle.rules.specs.declared.Report.{Report}
 use Rattle.rules.specs.Passes.{Outcome, outcome, noRoot, empty, passes}
-use Rattle.rules.specs.Test.{systemIn, afterCheck, test}
+use Rattle.rules.specs.Test.{systemIn, saying, afterCheck, test}
 use Rattle.passes.specs.Slices.{Slices, roomOf, allKids, Tells}
 use Rattle.passes.specs.Follow.{partsAmong}
 
@@ -29,7 +31,8 @@ module _ (bs : List ℕ) where
 
   pub test-taken : (limit room count : ℕ) (T R : Symbols) (σ : Slices) → refusal bs ≡ Good → count ≡ P bs → room ≡ roomOf σ
       → T ≡ ifWhole bs (treed (grammarOf bs)) → R ≡ ifWhole bs (reached (grammarOf bs) T)
-      → passes (systemIn bs) limit room (partsAmong T R (grammarOf bs) (upFrom 0 count)) ≡ test bs limit (roomOf σ)
+      → saying (widthOf bs) (grammarOf bs) (passes (systemIn bs) limit room (partsAmong T R (grammarOf bs) (upFrom 0 count)))
+      ≡ test bs limit (roomOf σ)
   unfolding test afterCheck
   test-taken limit room count T R σ h c e t r = rw (h, taking-is count T R h c t r, e)
 
@@ -39,10 +42,11 @@ module _ (bs : List ℕ) where
 
 -- nothing is stored
 pub tells-refused : (o : Outcome) (σ : Slices) (b : Broken) → o ≡ outcome (Refused b) noRoot empty 0
-    → Tells o σ (record { answer = Refused b; closures = 0; entries = 0; passes = 0; root = noRoot }) σ
+    → {t : Trail} → t ≡ noTrail
+    → Tells o σ (record { answer = Refused b; closures = 0; entries = 0; passes = 0; root = noRoot; circle = t }) σ
 unfolding allKids
-tells-refused o σ b e =
-    rw e (record { report = refl; symbols = refl; graphs = refl; productions = refl; kids = refl })
+tells-refused o σ b e h =
+    rw (e, h) (record { report = refl; symbols = refl; graphs = refl; productions = refl; kids = refl })
 
 pub tells-same : {o p : Outcome} {σ : Slices} {r : Report} {τ : Slices} → o ≡ p → Tells o σ r τ → Tells p σ r τ
 tells-same {σ} {r} {τ} e h = subst (λ (x : Outcome). Tells x σ r τ) e h

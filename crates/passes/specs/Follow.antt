@@ -8,13 +8,18 @@ use lib.Dec.{eqb}
 use lib.ListN.{length, getD, take, drop, replicate}
 use Rattle.numbers.specs.Lists.{keep, eachBelow, someBelow}
 use Rattle.grammar.specs.declared.Production.{Production}
-use Rattle.grammar.specs.Grammar.{Grammar, production, edgesOf}
+use Rattle.grammar.specs.Grammar.{Grammar, production, rights, edgesOf}
 use Rattle.grammar.specs.Table.{attributes, grammarOf}
-use Rattle.graph.specs.Rows.{own, hasCircle, rootGraph}
+use Rattle.graph.specs.declared.Trail.{Trail}
+use Rattle.graph.specs.Rows.{own, compound, hasCircle, rootGraph}
 use Rattle.graph.specs.Parts.{mostNodes}
+use Rattle.graph.specs.Search.{circleOf}
+use Rattle.graph.specs.Marks.{masksOf}
+use Rattle.graph.specs.Trails.{noTrail, circleTrail}
 use Rattle.parts.specs.Sets.{Symbols}
 use Rattle.parts.specs.Rule.{takesPart}
 use Rattle.rules.specs.declared.Answer.{Answer}
+use Rattle.rules.specs.declared.Answer.the-variants.{Noncircular, Circular, Refused, OutOfSteps, OutOfRoom}
 use Rattle.rules.specs.declared.Entry.{Entry}
 use Rattle.rules.specs.declared.Report.{Report}
 use Rattle.steps.specs.declared.Course.{Course}
@@ -22,13 +27,14 @@ use Rattle.steps.specs.declared.Course.the-variants.{Going, Stopped}
 use Rattle.steps.specs.declared.Run.{Run}
 use Rattle.steps.specs.declared.Task.{Task}
 use Rattle.steps.specs.Step.{closedOver}
-use Rattle.rules.specs.Passes.{System, State, Ran, going, stopped, andThen, seven, candidates, combinations}
+use Rattle.rules.specs.Passes.{System, State, Ran, going, stopped, andThen, seven, counting, candidates, combinations}
 use Rattle.passes.specs.Slices.{Slices, entriesTo}
 
 -- ---- the slices and a run, in the words of the rules
 
 abbrev pub reportOf : Answer → List ℕ → ℕ → Run → ℕ → Report
-reportOf a root limit r begun = record { answer = a; closures = limit - r .left; entries = r .stored; passes = begun; root = root }
+reportOf a root limit r begun =
+    record { answer = a; closures = limit - r .left; entries = r .stored; passes = begun; root = root; circle = noTrail }
 
 -- of `limit` closures those that are not left have been made
 abbrev pub stateOf : ℕ → Slices → Run → State
@@ -73,6 +79,30 @@ pub record Roomy (room : ℕ) (σ : Slices) (r : Run) : Type 0 where
   pub kids : 7 * room ≤ length (σ .kids)
   pub stored : r .stored ≤ room
   pub small : room ≤ 4096
+
+-- ---- the circle, once the passes have ended
+
+-- where the answer is circular, the circle of the root, whose entries have these graphs
+abbrev pub circleOver : List ℕ → List ℕ → List ℕ → Answer → Trail
+circleOver bs gs root (Circular p) =
+    let g = grammarOf bs in
+    circleTrail attributes (masksOf g (production g p))
+    (circleOf (compound attributes (edgesOf g p) (map (λ i. getD gs i 0) (counting (rights (production g p)) root))))
+circleOver bs gs root Noncircular = noTrail
+circleOver bs gs root (Refused b) = noTrail
+circleOver bs gs root OutOfSteps = noTrail
+circleOver bs gs root OutOfRoom = noTrail
+
+abbrev pub circled : Trail → Report → Report
+circled circle r =
+    record {
+      answer = r .answer;
+      closures = r .closures;
+      entries = r .entries;
+      passes = r .passes;
+      root = r .root;
+      circle = circle;
+    }
 
 -- ---- one production's turn
 

@@ -2,7 +2,7 @@
 ghost use mathlib.Core.Path.{_≡_};
 ghost use mathlib.Core.List.{[], _∷_};
 ghost use Prim.Native.Nat.{_-_, _≤_, _<_};
-ghost use lib.ListN.{length, set};
+ghost use lib.ListN.{length, set, take};
 ghost use Rattle.numbers.specs.Lists.{upFrom};
 ghost use Rattle.grammar.specs.declared.Checked.the-variants.{Good};
 ghost use Rattle.grammar.specs.Grammar.{production};
@@ -11,11 +11,12 @@ ghost use Rattle.grammar.specs.Refusal.{refusal};
 ghost use Rattle.rules.specs.Passes as stated;
 ghost use Rattle.rules.specs.Test.{systemIn};
 ghost use Rattle.passes.specs.Slices.{lent, atEntry, atExit, roomOf, Tells, Tested, entriesTo};
-ghost use Rattle.passes.specs.Follow.{reportOf, Follows, Roomy, InTurn, Picked, systemBy, taskOf, ownOf, combosFrom, occursIn, allIn, partsAmong};
+ghost use Rattle.passes.specs.Follow.{reportOf, Follows, Roomy, InTurn, Picked, systemBy, taskOf, ownOf, combosFrom, occursIn, allIn, partsAmong, circleOver, circled};
 use grammar::Checked;
 use grammar::NODES;
 use grammar::Production;
 use grammar::SLOTS;
+use graph::Trail;
 use parts::WORDS;
 use rules::Answer;
 use rules::Report;
@@ -231,7 +232,7 @@ fn pass(
     now
 }
 
-// The report after `begun` passes: the closures that are not left have been made.
+// The report after `begun` passes: the closures that are not left have been made, and no circle is said yet.
 fn ended(answer: Answer, root: [u16; SLOTS], limit: u32, run: Run, begun: u16) -> Report
     requires { ⌜ (run .left ≤ limit) × (run .stored ≤ 4096) ⌝ }
     ensures { λ r. ⌜ r ≡ reportOf answer root limit run begun ⌝ }
@@ -242,6 +243,7 @@ fn ended(answer: Answer, root: [u16; SLOTS], limit: u32, run: Run, begun: u16) -
         entries: run.stored as u16,
         passes: begun,
         root,
+        circle: search::no_trail(),
     }
 }
 
@@ -292,6 +294,37 @@ fn passes(
     }
 }
 
+// Where the answer is circular, the circle of the root, whose entries have these graphs.
+fn circle_said(table: &[u8], graphs: &[u64], root: [u16; SLOTS], answer: Answer) -> Trail
+    requires { ⌜ refusal (now table) ≡ Good ⌝ }
+    ensures { λ r. ⌜ r ≡ circleOver (now (table .entry)) (now (graphs .entry)) root answer ⌝ }
+{
+    let Answer::Circular(p) = answer else {
+        return search::no_trail();
+    };
+    circles::circle_of(table, graphs, numbers::wide(p), root)
+}
+
+// The report with the circle. Only the graphs of stored entries are read.
+fn with_circle(table: &[u8], graphs: &[u64], report: Report) -> Report
+    requires { ⌜ (refusal (now table) ≡ Good) × (report .entries ≤ length (now graphs)) ⌝ }
+    ensures { λ r. ⌜ r ≡ circled
+        (circleOver (now (table .entry)) (take (report .entries) (now (graphs .entry))) (report .root) (report .answer)) report ⌝ }
+{
+    let stored = numbers::wide(report.entries);
+    let answer = report.answer;
+    let root = report.root;
+    let circle = circle_said(table, &graphs[..stored], root, answer);
+    Report {
+        answer,
+        closures: report.closures,
+        entries: report.entries,
+        passes: report.passes,
+        root,
+        circle,
+    }
+}
+
 // The circularity test of a table with at most `limit` closures. The stored entries are left at the front of the slices.
 pub fn test(
     table: &[u8],
@@ -313,6 +346,7 @@ pub fn test(
             entries: 0,
             passes: 0,
             root: [0u16; SLOTS],
+            circle: search::no_trail(),
         };
     }
     let room = steps::room_of(symbols.len(), graphs.len(), productions.len(), kids.len());
@@ -320,7 +354,7 @@ pub fn test(
     let count = numbers::wide(header.productions);
     let treed = walks::treed_of(table);
     let reached = walks::reached_of(table, &treed);
-    passes(
+    let report = passes(
         table,
         count,
         &treed,
@@ -331,5 +365,6 @@ pub fn test(
         kids,
         room,
         limit,
-    )
+    );
+    with_circle(table, graphs, report)
 }

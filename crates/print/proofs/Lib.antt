@@ -1,4 +1,5 @@
 pub mod Placing
+pub mod Circles
 pub mod Resting
 pub mod Stored
 pub mod Longer

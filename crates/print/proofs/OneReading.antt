@@ -9,6 +9,8 @@ use Rattle.numbers.proofs.Reading.{OneOutcome}
 use Rattle.passes.specs.Slices.{Slices, slices}
 use Rattle.passes.proofs.OneReading.{told-once}
 use Rattle.print.specs.Texts.{Printed}
+use Rattle.print.proofs.put_circle.Kinds as put-circle-kinds
+use Rattle.print.proofs.put_circle.Reads as put-circle-reads
 use Rattle.print.proofs.report_text.Kinds as report-text-kinds
 use Rattle.print.proofs.report_text.Reads as report-text-reads
 use Rattle.print.proofs.test_text.Kinds as test-text-kinds
@@ -20,6 +22,10 @@ Back = List ℕ × ℕ
 printed-once : {text : List ℕ} {ok : Bool} {old new new′ : List ℕ} {r r′ : ℕ} → Printed text ok old new r → Printed text ok old new′ r′
     → _≡_ {A = Back} (new, r) (new′, r′)
 printed-once p q i = ((p .buffer ∙ sym (q .buffer)) i, (p .count ∙ sym (q .count)) i)
+
+pub one-reading-put-circle :
+    OneOutcome 1 put-circle-kinds.ps put-circle-kinds.r put-circle-reads.Post {W = λ κs. Back} (λ κs r s. (now (s .0), r))
+one-reading-put-circle κs a x y s t p q i = ((p .buffer ∙ sym (q .buffer)) i, (p .place ∙ sym (q .place)) i)
 
 pub one-reading-report-text :
     OneOutcome 6 report-text-kinds.ps report-text-kinds.r report-text-reads.Post {W = λ κs. Back} (λ κs r s. (now (s .0), r))

@@ -25,6 +25,9 @@ nothing at old h =
       short = omega arith;
     }
 
+pub placed : {text : List ℕ} {at : ℕ} {old new : List ℕ} {r : ℕ} → Written text at old new r → Placed text (length text) at old new r
+placed w = record { written = w; short = omega arith }
+
 module _ {at : ℕ} {old new : List ℕ} {r : ℕ} where
   -- the same text, and a bound that is no less
   pub within : {l k : List ℕ} {m n : ℕ} → l ≡ k → m ≤ n → Placed l m at old new r → Placed k n at old new r

@@ -9,16 +9,18 @@ use Rattle.numbers.specs.Lists.{both, written}
 use Rattle.rules.specs.declared.Report.{Report}
 use Rattle.rules.specs.declared.Entry.{Entry}
 use Rattle.rules.specs.Test.{test}
-use Rattle.texts.specs.Lines.{entryLine, printed}
+use Rattle.graph.specs.declared.Trail.{Trail}
+use Rattle.texts.specs.Lines.{entryLine, circleLine, printed}
 pub use Rattle.texts.specs.Lines.{kidsIn}
-use Rattle.lines.specs.Buffer.{lineBytes, Written}
+use Rattle.lines.specs.Buffer.{lineBytes, putLine, next, Written}
 use Rattle.passes.specs.Slices.{Slices, roomOf, Tells}
 
 -- ---- what is promised
 
--- the bytes of a buffer in which there is room for the lines of n entries and two more, however long they are
+-- the bytes of a buffer in which there is room for the lines of n entries, the first, the root's and the circle's, however long they are:
+-- the circle's has no more than five others
 abbrev pub bytesFor : ℕ → ℕ
-bytesFor n = lineBytes * (n + 2)
+bytesFor n = lineBytes * (n + 7)
 
 -- the slices have room for the entries, and the buffer for their lines
 abbrev pub enough : Report → Slices → List ℕ → Bool
@@ -36,7 +38,20 @@ pub record TestPrinted (bs : List ℕ) (limit : ℕ) (σ τ : Slices) (old new :
       Printed (printed (kidsIn bs) (test bs limit (roomOf σ)))
       (leb (bytesFor (length (test bs limit (roomOf σ) .entries))) (length old)) old new r
 
+-- no circle's line has more
+abbrev pub circleBytes : ℕ
+circleBytes = lineBytes * 5
+
+-- the line of a circle from `at` on, and the place after it, where there is room for the longest; else the buffer as before, and `at`
+pub record CirclePut (circle : Trail) (at : ℕ) (old new : List ℕ) (r : ℕ) : Type 0 where
+  pub buffer : new ≡ cond (leb (at + circleBytes) (length old)) (putLine (circleLine circle) at old) old
+  pub place : r ≡ cond (leb (at + circleBytes) (length old)) (next (circleLine circle) at old) at
+
 -- ---- on the way
+
+-- no link of it has more: a blank, three digits and a word of four letters after a blank
+abbrev pub linkBytes : ℕ
+linkBytes = 9
 
 abbrev pub entryText : (ℕ → ℕ) → ℕ → Entry → List ℕ
 entryText n i e = entryLine i (e .symbol) (e .production) (take (n (e .production)) (e .kids)) (e .graph)

@@ -4,15 +4,25 @@ ghost use Prim.Native.Nat.{_+_, _*_, _≤_, _<_};
 ghost use lib.Dec.{leb};
 ghost use lib.ListN.{length, take};
 ghost use Rattle.numbers.specs.Lists.{both};
+ghost use Rattle.graph.specs.Parts.{mostNodes};
 ghost use Rattle.lines.specs.Buffer.{lineBytes};
-ghost use Rattle.texts.specs.Lines.{firstLine, rootLine, entryLines, rest, printed};
+ghost use Rattle.texts.specs.Lines.{firstLine, rootLine, linkText, linksText, circleLine, entryLines, rootLines, rest, printed};
 ghost use Rattle.steps.specs.Slices.{roomFor};
 ghost use Rattle.passes.specs.Slices.{lent, atEntry, atExit, roomOf, entryAt, entriesTo, readOut};
-ghost use Rattle.print.specs.Texts.{kidsIn, entryText, Placed, bytesFor, enough, Printed, TestPrinted};
+ghost use Rattle.print.specs.Texts.{kidsIn, entryText, Placed, bytesFor, circleBytes, linkBytes, enough, CirclePut, Printed, TestPrinted};
+use grammar::NODES;
 use grammar::SLOTS;
+use graph::Trail;
 use lines::LINE_BYTES;
 use rules::Answer;
 use rules::Report;
+
+// The lines that a report may have besides those of its entries: the first, the root's, and the circle's, which may be as long as
+// five.
+pub const OTHER_LINES: usize = 7;
+
+// No circle's line has more.
+const CIRCLE_BYTES: usize = LINE_BYTES * 5;
 
 // How many kids the trees of a production have.
 fn kids_in(table: &[u8], p: u16) -> usize
@@ -88,7 +98,62 @@ fn root_line(buf: &mut [u8], at: usize, table: &[u8], p: u16, root: [u16; SLOTS]
     lines::put_root(buf, at, p, root, kids_in(table, p))
 }
 
-// Whether the slices have room for the entries, and the buffer for the line of each and for two more.
+// A function by itself, so that a node is known to have 8 bits.
+fn link(buf: &mut [u8], at: usize, node: u8, mark: u8) -> usize
+    ensures { λ r. ⌜ Placed (linkText node mark) linkBytes at (now (buf .entry)) (now (buf .exit)) r ⌝ }
+{
+    lines::put_link(buf, at, node, mark)
+}
+
+// Of the places the first `len` count, all of them where it is more.
+fn links(buf: &mut [u8], at: usize, circle: Trail) -> usize
+    requires { ⌜ at + linkBytes * mostNodes ≤ length (now buf) ⌝ }
+    ensures { λ r. ⌜ Placed
+        (linksText (take (circle .len) (circle .nodes)) (take (circle .len) (circle .marks)))
+        (linkBytes * mostNodes) at (now (buf .entry)) (now (buf .exit)) r ⌝ }
+{
+    let count = numbers::smaller(circle.len as usize, NODES);
+    let mut end = at;
+    for i in 0..count {
+        end = link(buf, end, circle.nodes[i], circle.marks[i]);
+    }
+    end
+}
+
+fn circle_line(buf: &mut [u8], at: usize, circle: Trail) -> usize
+    requires { ⌜ at + circleBytes ≤ length (now buf) ⌝ }
+    ensures { λ r. ⌜ Placed (circleLine circle) circleBytes at (now (buf .entry)) (now (buf .exit)) r ⌝ }
+{
+    let to_word = lines::put_word(buf, at, b"circle");
+    let to_links = links(buf, to_word, circle);
+    lines::put_word(buf, to_links, b"\n")
+}
+
+// The line of a circle, where the buffer has room for the longest from `at` on; else nothing is written.
+pub fn put_circle(buf: &mut [u8], at: usize, circle: Trail) -> usize
+    ensures { λ r. ⌜ CirclePut circle at (now (buf .entry)) (now (buf .exit)) r ⌝ }
+{
+    if buf.len() < CIRCLE_BYTES {
+        return at;
+    }
+    if buf.len() - CIRCLE_BYTES < at {
+        return at;
+    }
+    circle_line(buf, at, circle)
+}
+
+// What follows the entries of a circular answer.
+fn root_lines(buf: &mut [u8], at: usize, table: &[u8], p: u16, report: Report) -> usize
+    requires { ⌜ at + lineBytes * 6 ≤ length (now buf) ⌝ }
+    ensures { λ r. ⌜ Placed (rootLines (kidsIn (now (table .entry))) report p) (lineBytes * 6) at (now (buf .entry)) (now (buf .exit)) r ⌝ }
+{
+    let root = report.root;
+    let end = root_line(buf, at, table, p, root);
+    let circle = report.circle;
+    circle_line(buf, end, circle)
+}
+
+// Whether the slices have room for the entries, and the buffer for the line of each and for the others.
 fn is_enough(
     entries: usize,
     bytes: usize,
@@ -104,7 +169,7 @@ fn is_enough(
     if room < entries {
         return false;
     }
-    LINE_BYTES * (entries + 2) <= bytes
+    LINE_BYTES * (entries + OTHER_LINES) <= bytes
 }
 
 // What follows the first line.
@@ -119,13 +184,13 @@ fn rest_lines(
     kids: &[u16],
 ) -> usize
     requires { ⌜ (report .entries ≤ roomOf (lent symbols graphs productions kids))
-        × (at + lineBytes * (report .entries + 1) ≤ length (now buf)) ⌝ }
+        × (at + lineBytes * (report .entries + 6) ≤ length (now buf)) ⌝ }
     ensures { λ r. ⌜ Placed
         (rest (report .answer)
         (entryLines (kidsIn (now (table .entry))) 0
         (entriesTo (atEntry symbols graphs productions kids) (report .entries)))
-        (λ p. rootLine p (take (kidsIn (now (table .entry)) p) (report .root))))
-        (lineBytes * (report .entries + 1)) at (now (buf .entry)) (now (buf .exit)) r ⌝ }
+        (rootLines (kidsIn (now (table .entry))) report))
+        (lineBytes * (report .entries + 6)) at (now (buf .entry)) (now (buf .exit)) r ⌝ }
 {
     let answer = report.answer;
     if let Answer::Refused(_) = answer {
@@ -136,12 +201,11 @@ fn rest_lines(
     let Answer::Circular(p) = answer else {
         return end;
     };
-    let root = report.root;
-    root_line(buf, end, table, p, root)
+    root_lines(buf, end, table, p, report)
 }
 
 // The text of a report. Where the slices hold fewer entries than it says, or the buffer less than LINE_BYTES for the line of each and
-// for two more, nothing is written and the answer is 0.
+// for OTHER_LINES, nothing is written and the answer is 0.
 pub fn report_text(
     buf: &mut [u8],
     table: &[u8],
@@ -173,7 +237,7 @@ pub fn report_text(
 }
 
 // The text of the test of a table with at most `limit` closures. The stored entries are left at the front of the slices. Where the
-// buffer has less than LINE_BYTES for the line of each of them and for two more, it is as before and the answer is 0.
+// buffer has less than LINE_BYTES for the line of each of them and for OTHER_LINES, it is as before and the answer is 0.
 pub fn test_text(
     buf: &mut [u8],
     table: &[u8],

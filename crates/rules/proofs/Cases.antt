@@ -78,7 +78,20 @@ entries-A = refl
 pub whole-B :
     test tableB 1000000 1024
     ≡ record {
-      report = record { answer = Circular 0; closures = 3; entries = 2; passes = 2; root = replicate 7 0 };
+      report =
+          record {
+            answer = Circular 0;
+            closures = 3;
+            entries = 2;
+            passes = 2;
+            root = replicate 7 0;
+            circle =
+                record {
+                  nodes = 8 ∷ 10 ∷ 9 ∷ 11 ∷ replicate 60 0;
+                  marks = 0 ∷ 1 ∷ 0 ∷ 1 ∷ replicate 60 0;
+                  len = 4;
+                };
+          };
       entries = made 1 2052 1 (replicate 7 0) ∷ made 1 2048 2 (replicate 7 0) ∷ [];
     }
 unfolding opened tableB

@@ -10,14 +10,14 @@ use borrow.Author.Tests.{leb-false}
 use Rattle.grammar.specs.declared.Checked.{Checked}
 use Rattle.grammar.specs.declared.Checked.the-variants.{Good, Refused as Bad}
 use Rattle.grammar.specs.Grammar.{production, rights}
-use Rattle.grammar.specs.Table.{P, grammarOf}
+use Rattle.grammar.specs.Table.{P, widthOf, grammarOf}
 use Rattle.grammar.specs.Refusal.{refusal}
 use Rattle.grammar.proofs.Lookups.{slots-seven}
 use Rattle.parts.specs.Rule.{taking}
 use Rattle.rules.specs.declared.Answer.the-variants.{Noncircular}
 use Rattle.rules.specs.declared.Entry.{Entry}
 use Rattle.rules.specs.Passes.{System, State, Ran, going, stopped, andThen, seven, noRoot, candidates, prefixed, combinations, stopIf, goOnIf, try, tries, turn, pass, Outcome, outcome, after, empty, passesFrom, passes}
-use Rattle.rules.specs.Test.{systemOf, systemIn, afterCheck, test}
+use Rattle.rules.specs.Test.{systemOf, systemIn, saying, afterCheck, test}
 use Rattle.rules.proofs.Steps.{byTests}
 
 -- ---- every combination has a number for each right symbol
@@ -145,13 +145,21 @@ module _ (bs : List ℕ) where
   unfolding systemOf
   few-rights p = let s = slots-seven bs p in rw length-take (omega arith)
 
+  nothing : (room : ℕ) → Sound room []
+  nothing room = record { fits = zero-le; slots = tt }
+
+  -- the passes over any productions
+  pub counted-passes-in : (limit room : ℕ) (ps : List ℕ) → Counted room (passes (systemIn bs) limit room ps)
+  unfolding passes
+  counted-passes-in limit room ps = counted-passes (systemIn bs) limit room few-rights (suc room) ps 0 empty (nothing room)
+
   pub counted-test : (limit room : ℕ) → Counted room (test bs limit room)
-  unfolding test afterCheck passes
+  unfolding test afterCheck
   counted-test limit room = go (refusal bs)
     where
-      nothing : Sound room []
-      nothing = record { fits = zero-le; slots = tt }
-
-      go : (c : Checked) → Counted room (afterCheck c (passes (systemIn bs) limit room (taking (grammarOf bs))))
-      go Good = counted-passes (systemIn bs) limit room few-rights (suc room) (taking (grammarOf bs)) 0 empty nothing
-      go (Bad b) = record { count = refl; sound = nothing }
+      go : (c : Checked)
+          → Counted room (afterCheck c (saying (widthOf bs) (grammarOf bs) (passes (systemIn bs) limit room (taking (grammarOf bs)))))
+      go Good =
+          let c = counted-passes-in limit room (taking (grammarOf bs)) in
+          record { count = c .count; sound = c .sound }
+      go (Bad b) = record { count = refl; sound = nothing room }

@@ -6,6 +6,7 @@ use lib.Dec.{leb, eqb}
 use lib.ListN.{length, getD, take, replicate}
 use Rattle.numbers.specs.Lists.{both, upFrom, keep}
 use Rattle.grammar.specs.declared.Broken.the-variants.{Rule, Record}
+use Rattle.graph.specs.Trails.{noTrail}
 use Rattle.rules.specs.declared.Answer.{Answer}
 use Rattle.rules.specs.declared.Answer.the-variants.{Noncircular, Circular, Refused, OutOfSteps, OutOfRoom}
 use Rattle.rules.specs.declared.Report.{Report}
@@ -163,10 +164,12 @@ pub record Outcome : Type 0 where
   pub report : Report
   pub entries : List Entry
 
+-- no circle is said yet
 abbrev pub outcome : Answer → List ℕ → State → ℕ → Outcome
 outcome a root s begun =
     record {
-      report = record { answer = a; closures = s .made; entries = length (s .entries); passes = begun; root = root };
+      report =
+          record { answer = a; closures = s .made; entries = length (s .entries); passes = begun; root = root; circle = noTrail };
       entries = s .entries;
     }
 

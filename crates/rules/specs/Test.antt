@@ -8,8 +8,14 @@ use Rattle.grammar.specs.Table.{widthOf, grammarOf}
 use Rattle.grammar.specs.Refusal.{refusal}
 use Rattle.parts.specs.Rule.{taking}
 use Rattle.graph.specs.Rows.{compound, closure, hasCircle, rootGraph}
-use Rattle.rules.specs.declared.Answer.the-variants.{Refused}
-use Rattle.rules.specs.Passes.{System, Outcome, outcome, noRoot, empty, passes}
+use Rattle.graph.specs.declared.Trail.{Trail}
+use Rattle.graph.specs.Search.{circleOf}
+use Rattle.graph.specs.Marks.{masksOf}
+use Rattle.graph.specs.Trails.{noTrail, circleTrail}
+use Rattle.rules.specs.declared.Answer.{Answer}
+use Rattle.rules.specs.declared.Answer.the-variants.{Noncircular, Circular, Refused, OutOfSteps, OutOfRoom}
+use Rattle.rules.specs.declared.Entry.{Entry}
+use Rattle.rules.specs.Passes.{System, Outcome, outcome, counting, graphs, noRoot, empty, passes}
 
 -- the closed rows of a production's compound graph over the graphs gs
 abbrev pub closed : ℕ → Grammar → ℕ → List ℕ → List ℕ
@@ -28,6 +34,35 @@ systemOf w g =
 abbrev pub systemIn : List ℕ → System
 systemIn bs = systemOf (widthOf bs) (grammarOf bs)
 
+-- the compound graph of a root: of the production p over the entries in its slots
+abbrev pub rootRows : ℕ → Grammar → List Entry → ℕ → List ℕ → List ℕ
+rootRows w g es p root = compound w (edgesOf g p) (graphs es (counting (rights (production g p)) root))
+
+-- where the answer is circular, the circle of the root's compound graph
+abbrev pub circleSaid : ℕ → Grammar → List Entry → List ℕ → Answer → Trail
+circleSaid w g es root (Circular p) = circleTrail w (masksOf g (production g p)) (circleOf (rootRows w g es p root))
+circleSaid w g es root Noncircular = noTrail
+circleSaid w g es root (Refused b) = noTrail
+circleSaid w g es root OutOfSteps = noTrail
+circleSaid w g es root OutOfRoom = noTrail
+
+-- what the passes give, and the circle
+abbrev pub saying : ℕ → Grammar → Outcome → Outcome
+saying w g o =
+    let r = o .report in
+    record {
+      report =
+          record {
+            answer = r .answer;
+            closures = r .closures;
+            entries = r .entries;
+            passes = r .passes;
+            root = r .root;
+            circle = circleSaid w g (o .entries) (r .root) (r .answer);
+          };
+      entries = o .entries;
+    }
+
 -- a bad table is refused: nothing is counted and nothing is stored
 unfoldable pub afterCheck : Checked → Outcome → Outcome
 afterCheck Good o = o
@@ -35,4 +70,5 @@ afterCheck (Bad b) o = outcome (Refused b) noRoot empty 0
 
 -- a pass goes over the productions that take part, by number
 unfoldable pub test : List ℕ → ℕ → ℕ → Outcome
-test bs limit room = afterCheck (refusal bs) (passes (systemIn bs) limit room (taking (grammarOf bs)))
+test bs limit room =
+    afterCheck (refusal bs) (saying (widthOf bs) (grammarOf bs) (passes (systemIn bs) limit room (taking (grammarOf bs))))

@@ -32,6 +32,7 @@ pub printed-B :
     ++ ascii "entry 0 symbol 1 production 1 kids graph 2052\n"
     ++ ascii "entry 1 symbol 1 production 2 kids graph 2048\n"
     ++ ascii "root production 0 kids 0\n"
+    ++ ascii "circle 8 pair 10 edge 9 pair 11 edge\n"
 unfolding opened linesOpened tableB
 printed-B = refl
 

@@ -1,15 +1,18 @@
--- No line has more than 128 bytes, where the numbers are those of their types. Assumes nothing.
+-- No line has more than 128 bytes but the circle's, which has no more than 640, where the numbers are those of their types. Assumes nothing.
 use mathlib.Core.Path.{_≡_, refl}
+use mathlib.Core.Bool.{Bool, true, false}
 use mathlib.Core.List.{List, [], _∷_}
 use Prim.Native.Nat.{ℕ, zero, suc, _*_, _^_, _≤_, _<_, zero-le}
 use native.Mathlib.Omega.{arith}
+use lib.Dec.{eqb}
 use lib.ListN.{length, getD, take, length-append}
 use Rattle.grammar.specs.declared.Broken.{Broken}
 use Rattle.grammar.specs.declared.Broken.the-variants.{Rule, Record}
+use Rattle.graph.specs.declared.Trail.{Trail}
 use Rattle.rules.specs.declared.Answer.{Answer}
 use Rattle.rules.specs.declared.Answer.the-variants.{Noncircular, Circular, Refused, OutOfSteps, OutOfRoom}
 use Rattle.rules.specs.declared.Report.{Report}
-use Rattle.texts.specs.Lines.{decimal, counts, brokenNumbers, answered, firstLine, spaced, entryLine, rootLine}
+use Rattle.texts.specs.Lines.{decimal, counts, brokenNumbers, answered, firstLine, spaced, entryLine, rootLine, linkWord, linkText, linksText, circleLine}
 use Rattle.texts.proofs.Decimal.{at-most, length-decimal}
 
 -- at most five digits for 16 bits, and at most twenty for 64
@@ -91,3 +94,33 @@ module _ (kids : List ℕ) (n : ℕ) (seven : length kids ≡ 7) (h : (i : ℕ) 
       let a = short production hp in
       let k = spaced-short n kids h in
       simp length-append (omega arith)
+
+-- ---- the circle
+
+-- a link takes a blank, at most three digits and its word
+pub link-short : (node mark : ℕ) → node < 2 ^ 8 → length (linkText node mark) ≤ 9
+unfolding linkText
+link-short node mark h =
+    let digits : length (decimal node) ≤ 3 = rw (length-decimal node) (at-most node 2 (omega arith)) in
+    let word = word-is (eqb mark 1) in
+    simp length-append (omega arith)
+  where
+    word-is : (b : Bool) → length (linkWord b) ≡ 5
+    word-is true = refl
+    word-is false = refl
+
+links-short : (n : ℕ) (xs ms : List ℕ) → ((i : ℕ) → getD xs i 0 < 2 ^ 8) → length (linksText (take n xs) ms) ≤ 9 * length xs
+unfolding linksText
+links-short zero xs ms h = zero-le
+links-short (suc n) [] ms h = zero-le
+links-short (suc n) (x ∷ xs) [] h = zero-le
+links-short (suc n) (x ∷ xs) (m ∷ ms) h =
+    let one = link-short x m (h 0) in
+    let rest = links-short n xs ms (λ i. h (suc i)) in
+    simp length-append (omega arith)
+
+pub circle-short : (t : Trail) → length (t .nodes) ≡ 64 → ((i : ℕ) → getD (t .nodes) i 0 < 2 ^ 8) → length (circleLine t) ≤ 640
+unfolding circleLine
+circle-short t all h =
+    let links = links-short (t .len) (t .nodes) (take (t .len) (t .marks)) h in
+    simp length-append (omega arith)

@@ -1,19 +1,27 @@
 -- What is printed of an outcome tells the outcome: each line is read in one way, word by word and number by number. Assumes nothing.
 use mathlib.Core.Path.{_≡_, refl, sym, ap, _∙_}
-use mathlib.Core.Bool.{cond}
-use mathlib.Core.List.{List, [], _∷_, _++_, append-nil, append-assoc, append-cancel-left}
-use Prim.Native.Nat.{ℕ, suc, _<_}
+use mathlib.Core.Bool.{Bool, true, false, cond}
+use mathlib.Core.List.{List, [], _∷_, _++_, map, append-nil, append-assoc, append-cancel-left}
+use Prim.Native.Nat.{ℕ, suc, _-_, _<_}
 use native.Mathlib.Omega.{arith}
 use lib.Dec.{eqb}
-use lib.ListN.{length, getD, take, drop}
+use lib.ListN.{length, getD, take, drop, replicate, length-map}
+use lib.Seq.{take-at}
+use Rattle.grammar.specs.Grammar.{Grammar}
 use Rattle.grammar.specs.declared.Broken.{Broken}
 use Rattle.grammar.specs.declared.Broken.the-variants.{Rule, Record}
+use Rattle.graph.specs.declared.Trail.{Trail}
+use Rattle.graph.specs.Parts.{mostNodes}
+use Rattle.graph.specs.Marks.{edgeInto, markOf, markInto, targetsOf}
+use Rattle.graph.specs.Trails.{filledUp, trailOf}
+use Rattle.graph.proofs.Marks.{length-marks}
 use Rattle.rules.specs.declared.Answer.{Answer}
 use Rattle.rules.specs.declared.Answer.the-variants.{Noncircular, Circular, Refused, OutOfSteps, OutOfRoom}
 use Rattle.rules.specs.declared.Entry.{Entry}
 use Rattle.rules.specs.Passes.{Outcome, outcome, entry, seven, noRoot, empty}
-use Rattle.texts.specs.Lines.{ascii, decimal, newline, tagged, brokenNumbers, answered, counts, firstLine, spaced, kidsText, entryLine, rootLine, entryLines, rest, printed}
-use Rattle.texts.specs.Telling.{OthersZero, RootZero, UnprintedZero, PrintedTells}
+use Rattle.rules.specs.Test.{circleSaid}
+use Rattle.texts.specs.Lines.{ascii, decimal, newline, tagged, brokenNumbers, answered, counts, firstLine, spaced, kidsText, entryLine, rootLine, linkWord, linkText, linksText, circleLine, entryLines, rootLines, rest, printed}
+use Rattle.texts.specs.Telling.{OthersZero, RootZero, BeyondZero, CircleZero, UnprintedZero, PrintedTells}
 use Rattle.texts.proofs.Numbers.{EndsNumber, tagged-told, digit-first}
 
 -- ---- the first line
@@ -88,7 +96,7 @@ refused-told b c h =
 graph-ends : (g : ℕ) (r : List ℕ) → EndsKids (tagged " graph " g ++ r)
 graph-ends g r = record { ends = refl; none = λ k s h. digit-first k 103 s _ refl (ap (drop 1) (sym h)) }
 
--- ---- the lines of the entries, and of the root
+-- ---- the line of an entry, and of the root
 
 six : (a b c d e f r : List ℕ) → a ++ b ++ c ++ d ++ e ++ f ++ r ≡ a ++ (b ++ (c ++ (d ++ (e ++ (f ++ r)))))
 six a b c d e f r = simp append-assoc
@@ -109,17 +117,111 @@ module _ (i a p g i′ a′ p′ g′ : ℕ) (ks ls r s : List ℕ) where
       let h₅ = tagged-told " graph " g g′ _ _ refl refl (h₄ .1) in
       (h₂ .0, h₃ .0, h₄ .0, h₅ .0, append-cancel-left newline r s (h₅ .1))
 
-module _ (p p′ : ℕ) (ks ls : List ℕ) where
-  root-told : rootLine p ks ≡ rootLine p′ ls → (p ≡ p′) × (ks ≡ ls)
+three : (a b c r : List ℕ) → a ++ b ++ c ++ r ≡ a ++ (b ++ (c ++ r))
+three a b c r = simp append-assoc
+
+module _ (p p′ : ℕ) (ks ls r s : List ℕ) where
+  root-told : rootLine p ks ++ r ≡ rootLine p′ ls ++ s → (p ≡ p′) × (ks ≡ ls) × (r ≡ s)
   unfolding rootLine
   root-told h =
       let h₀ =
-      sym (append-assoc (tagged "root production " p) (kidsText ks) newline)
+      sym (three (tagged "root production " p) (kidsText ks) newline r)
       ∙ h
-      ∙ append-assoc (tagged "root production " p′) (kidsText ls) newline in
+      ∙ three (tagged "root production " p′) (kidsText ls) newline s in
       let h₁ = tagged-told "root production " p p′ _ _ refl refl h₀ in
-      let h₂ = kids-told ks ls newline newline (newline-ends []) (newline-ends []) (h₁ .1) in
-      (h₁ .0, h₂ .0)
+      let h₂ = kids-told ks ls _ _ (newline-ends r) (newline-ends s) (h₁ .1) in
+      (h₁ .0, h₂ .0, append-cancel-left newline r s (h₂ .1))
+
+-- ---- the line of the circle
+
+word-ends : (b : Bool) (r : List ℕ) → EndsNumber (linkWord b ++ r)
+word-ends true r = refl
+word-ends false r = refl
+
+-- the second letter tells the words of links apart
+word-told : (b c : Bool) (r s : List ℕ) → linkWord b ++ r ≡ linkWord c ++ s → (b ≡ c) × (r ≡ s)
+word-told true true r s h = (refl, append-cancel-left (ascii " edge") r s h)
+word-told true false r s h = let z : _≡_ {A = ℕ} 101 112 = ap (λ (l : List ℕ). getD l 1 0) h in absurd (omega arith)
+word-told false true r s h = let z : _≡_ {A = ℕ} 112 101 = ap (λ (l : List ℕ). getD l 1 0) h in absurd (omega arith)
+word-told false false r s h = (refl, append-cancel-left (ascii " pair") r s h)
+
+-- the link that a node and its mark say, before the others
+link-is : (x : ℕ) (b : Bool) (t r : List ℕ) → linkText x (markOf b) ++ t ++ r ≡ tagged " " x ++ (linkWord b ++ (t ++ r))
+unfolding linkText
+link-is x true t r = three (tagged " " x) (linkWord true) t r
+link-is x false t r = three (tagged " " x) (linkWord false) t r
+
+data Paired : List ℕ → List Bool → Type 0 where
+  none : Paired [] []
+  more : (x : ℕ) (b : Bool) {xs : List ℕ} {bs : List Bool} → Paired xs bs → Paired (x ∷ xs) (b ∷ bs)
+
+paired : (xs : List ℕ) (bs : List Bool) → length bs ≡ length xs → Paired xs bs
+paired [] [] h = none
+paired [] (b ∷ bs) h = absurd (omega arith)
+paired (x ∷ xs) [] h = absurd (omega arith)
+paired (x ∷ xs) (b ∷ bs) h = more x b (paired xs bs (omega arith))
+
+abbrev links : List ℕ → List Bool → List ℕ
+links xs bs = linksText xs (map markOf bs) ++ newline
+
+-- a link is not the end of the line
+not-ended : (x : ℕ) (b : Bool) (t : List ℕ) → ¬ (newline ≡ linkText x (markOf b) ++ t ++ newline)
+not-ended x b t h = newline-ends [] .none x _ (h ∙ link-is x b t newline)
+
+links-told : {xs ys : List ℕ} {bs cs : List Bool} → Paired xs bs → Paired ys cs → links xs bs ≡ links ys cs → (xs ≡ ys) × (bs ≡ cs)
+unfolding linksText
+links-told none none h = (refl, refl)
+links-told none (more y c q) h = absurd (not-ended y c _ h)
+links-told (more x b p) none h = absurd (not-ended x b _ (sym h))
+links-told (more x b p) (more y c q) h =
+    let h₁ = tagged-told " " x y _ _ (word-ends b _) (word-ends c _) (sym (link-is x b _ newline) ∙ h ∙ link-is y c _ newline) in
+    let h₂ = word-told b c _ _ (h₁ .1) in
+    let h₃ = links-told p q (h₂ .1) in
+    (λ j. h₁ .0 j ∷ h₃ .0 j, λ j. h₂ .0 j ∷ h₃ .1 j)
+
+front : (xs : List ℕ) (k : ℕ) → length xs ≡ k → take k (filledUp mostNodes xs) ≡ xs
+front xs k e = take-at xs (replicate (mostNodes - length xs) 0) k e
+
+-- what is printed of a circle is what counts of it
+counts-of : {t : Trail} (z : BeyondZero t) → circleLine t ≡ ascii "circle" ++ links (z .nodes) (z .edges)
+unfolding circleLine
+counts-of z =
+    let marks = front (map markOf (z .edges)) (length (z .nodes)) (length-map (z .edges) markOf ∙ z .as-many) in
+    rw (z .is, front (z .nodes) (length (z .nodes)) refl, marks)
+
+circle-told : {t u : Trail} → BeyondZero t → BeyondZero u → circleLine t ≡ circleLine u → t ≡ u
+circle-told {t} {u} z y h =
+    let h₁ = append-cancel-left (ascii "circle") _ _ (sym (counts-of z) ∙ h ∙ counts-of y) in
+    let h₂ = links-told (paired (z .nodes) (z .edges) (z .as-many)) (paired (y .nodes) (y .edges) (y .as-many)) h₁ in
+    z .is
+    ∙ (λ j. record { nodes = filledUp mostNodes (h₂ .0 j); marks = filledUp mostNodes (map markOf (h₂ .1 j)); len = length (h₂ .0 j) })
+    ∙ sym (y .is)
+
+marks-are : (w : ℕ) (masks ts : List ℕ) → map (markInto w masks) ts ≡ map markOf (map (edgeInto w masks) ts)
+marks-are w masks [] = refl
+marks-are w masks (t ∷ ts) = ap (λ (ms : List ℕ). markInto w masks t ∷ ms) (marks-are w masks ts)
+
+-- what is handed over of a path is such a trail
+pub trail-beyond-zero : (w : ℕ) (masks c : List ℕ) (y : ℕ) → BeyondZero (trailOf w masks c y)
+unfolding trailOf
+trail-beyond-zero w masks c y =
+    record {
+      nodes = c;
+      edges = map (edgeInto w masks) (targetsOf c y);
+      as-many =
+          length-map (targetsOf c y) (edgeInto w masks) ∙ sym (length-map (targetsOf c y) (markInto w masks)) ∙ length-marks w masks c y;
+      is = rw (marks-are w masks (targetsOf c y));
+    }
+
+-- and so is the circle of every outcome of a table
+pub said-zero : (w : ℕ) (g : Grammar) (es : List Entry) (root : List ℕ) (a : Answer) → CircleZero (circleSaid w g es root a) a
+said-zero w g es root Noncircular = refl
+said-zero w g es root (Circular p) = trail-beyond-zero w _ _ _
+said-zero w g es root (Refused b) = refl
+said-zero w g es root OutOfSteps = refl
+said-zero w g es root OutOfRoom = refl
+
+-- ---- the lines of the entries
 
 -- a text before which the entries end: their lines begin with an `e`
 abbrev EndsEntries : List ℕ → Type 0
@@ -216,14 +318,14 @@ abbrev lines : (ℕ → ℕ) → Outcome → List ℕ
 lines n o = entryLines n 0 (o .entries)
 
 abbrev root : (ℕ → ℕ) → Outcome → ℕ → List ℕ
-root n o p = rootLine p (take (n p) (o .report .root))
+root n o p = rootLines n (o .report) p
 
 root-ends : (n : ℕ → ℕ) (o : Outcome) (p : ℕ) → EndsEntries (root n o p)
 unfolding rootLine
 root-ends n o p h = omega arith
 
 module _ (n n′ : ℕ → ℕ) (o o′ : Outcome) (z : Slotted n (o .entries)) (z′ : Slotted n′ (o′ .entries)) where
-  -- all but the answer and the root
+  -- all but the answer, the root and the circle
   record Same : Type 0 where
     closures : o .report .closures ≡ o′ .report .closures
     count : o .report .entries ≡ o′ .report .entries
@@ -250,11 +352,20 @@ module _ (n n′ : ℕ → ℕ) (o o′ : Outcome) (z : Slotted n (o .entries)) 
       ∙ h
       ∙ ap (λ (l : List ℕ). t ++ numbers o′ ++ l) (sym (append-nil (lines n′ o′)))) .0
 
-  joined : (a b : Answer) → o .report .answer ≡ a → o′ .report .answer ≡ b → a ≡ b → o .report .root ≡ o′ .report .root → Same → o ≡ o′
-  joined a b ea eb same roots s =
+  joined : (a b : Answer) → o .report .answer ≡ a → o′ .report .answer ≡ b → a ≡ b → o .report .root ≡ o′ .report .root
+      → o .report .circle ≡ o′ .report .circle → Same → o ≡ o′
+  joined a b ea eb same roots circles s =
       let answers = ea ∙ same ∙ sym eb in
       λ j. record {
-        report = record { answer = answers j; closures = s .closures j; entries = s .count j; passes = s .passes j; root = roots j };
+        report =
+            record {
+              answer = answers j;
+              closures = s .closures j;
+              entries = s .count j;
+              passes = s .passes j;
+              root = roots j;
+              circle = circles j;
+            };
         entries = s .entries j;
       }
 
@@ -263,21 +374,25 @@ module _ (n n′ : ℕ → ℕ) (o o′ : Outcome) (z : Slotted n (o .entries)) 
   textOf m x a = answered a (numbers x) ++ rest a (lines m x) (root m x)
 
   told : (w : Word) (a b : Answer) → Says w a → Says w b → o .report .answer ≡ a → o′ .report .answer ≡ b → RootZero n o a → RootZero n′ o′ b
-      → textOf n o a ≡ textOf n′ o′ b → o ≡ o′
+      → CircleZero (o .report .circle) a → CircleZero (o′ .report .circle) b → textOf n o a ≡ textOf n′ o′ b → o ≡ o′
   unfolding rest
-  told w a b noncircular noncircular ea eb r r′ h = joined Noncircular Noncircular ea eb refl (r ∙ sym r′) (plain-told (ascii "noncircular") h)
-  told w a b (circular p) (circular q) ea eb r r′ h =
+  told w a b noncircular noncircular ea eb r r′ t t′ h =
+      joined Noncircular Noncircular ea eb refl (r ∙ sym r′) (t ∙ sym t′) (plain-told (ascii "noncircular") h)
+  told w a b (circular p) (circular q) ea eb r r′ t t′ h =
       let h₁ = body-told (ascii "circular") (root n o p) (root n′ o′ q) (root-ends n o p) (root-ends n′ o′ q) h in
-      let h₂ = root-told p q _ _ (h₁ .1) in
-      joined (Circular p) (Circular q) ea eb (ap Circular (h₂ .0)) (slots-told (n p) (n′ q) (o .report .root) (o′ .report .root) r r′ (h₂ .1)) (h₁ .0)
-  told w a b (refused k) (refused l) ea eb r r′ h =
+      let h₂ = root-told p q _ _ _ _ (h₁ .1) in
+      joined (Circular p) (Circular q) ea eb (ap Circular (h₂ .0)) (slots-told (n p) (n′ q) (o .report .root) (o′ .report .root) r r′ (h₂ .1))
+      (circle-told t t′ (h₂ .2)) (h₁ .0)
+  told w a b (refused k) (refused l) ea eb r r′ t t′ h =
       r ∙ ap (λ (b : Broken). outcome (Refused b) noRoot empty 0) (refused-told k l h) ∙ sym r′
-  told w a b steps steps ea eb r r′ h = joined OutOfSteps OutOfSteps ea eb refl (r ∙ sym r′) (plain-told (ascii "out-of-steps") h)
-  told w a b room room ea eb r r′ h = joined OutOfRoom OutOfRoom ea eb refl (r ∙ sym r′) (plain-told (ascii "out-of-room") h)
+  told w a b steps steps ea eb r r′ t t′ h =
+      joined OutOfSteps OutOfSteps ea eb refl (r ∙ sym r′) (t ∙ sym t′) (plain-told (ascii "out-of-steps") h)
+  told w a b room room ea eb r r′ t t′ h =
+      joined OutOfRoom OutOfRoom ea eb refl (r ∙ sym r′) (t ∙ sym t′) (plain-told (ascii "out-of-room") h)
 
 pub printed-tells : PrintedTells
 unfolding printed firstLine
 printed-tells n n′ o o′ z z′ h =
     let word = sym (word-in (o .report .answer) _ _) ∙ ap wordIn h ∙ word-in (o′ .report .answer) _ _ in
     told n n′ o o′ (z .kids) (z′ .kids) (wordOf (o .report .answer)) (o .report .answer) (o′ .report .answer) (says (o .report .answer))
-    (rw word (says (o′ .report .answer))) refl refl (z .root) (z′ .root) h
+    (rw word (says (o′ .report .answer))) refl refl (z .root) (z′ .root) (z .circle) (z′ .circle) h

@@ -4,13 +4,14 @@ use mathlib.Core.List.{List, [], _∷_, _++_}
 use Prim.Native.Char.{code}
 use Prim.Native.String.{String, [] as []ˢ, _∷_ as _∷ˢ_}
 use Prim.Native.Nat.{ℕ, zero, suc, _/_}
-use lib.Dec.{ltb}
+use lib.Dec.{eqb, ltb}
 use lib.ListN.{take}
 use Rattle.io.specs.Digits.{digits}
 use Rattle.grammar.specs.Grammar.{production}
 use Rattle.grammar.specs.Table.{grammarOf}
 use Rattle.grammar.specs.declared.Broken.{Broken}
 use Rattle.grammar.specs.declared.Broken.the-variants.{Rule, Record}
+use Rattle.graph.specs.declared.Trail.{Trail}
 use Rattle.rules.specs.declared.Answer.{Answer}
 use Rattle.rules.specs.declared.Answer.the-variants.{Noncircular, Circular, Refused, OutOfSteps, OutOfRoom}
 use Rattle.rules.specs.declared.Report.{Report}
@@ -87,6 +88,24 @@ entryLine number symbol production kids graph =
 unfoldable pub rootLine : ℕ → List ℕ → List ℕ
 rootLine production kids = tagged "root production " production ++ kidsText kids ++ newline
 
+-- the word of a link: an edge of the production, or a pair of a subtree
+abbrev pub linkWord : Bool → List ℕ
+linkWord true = ascii " edge"
+linkWord false = ascii " pair"
+
+-- a node of the circle, and the link that leaves it
+unfoldable pub linkText : ℕ → ℕ → List ℕ
+linkText node mark = tagged " " node ++ linkWord (eqb mark 1)
+
+-- each node with the mark beside it
+unfoldable pub linksText : List ℕ → List ℕ → List ℕ
+linksText [] marks = []
+linksText (x ∷ xs) [] = []
+linksText (x ∷ xs) (m ∷ ms) = linkText x m ++ linksText xs ms
+
+unfoldable pub circleLine : Trail → List ℕ
+circleLine t = ascii "circle" ++ linksText (take (t .len) (t .nodes)) (take (t .len) (t .marks)) ++ newline
+
 -- ---- what is printed
 
 -- how many right symbols a production of the table has
@@ -99,6 +118,10 @@ entryLines n i [] = []
 entryLines n i (e ∷ es) =
     entryLine i (e .symbol) (e .production) (take (n (e .production)) (e .kids)) (e .graph) ++ entryLines n (suc i) es
 
+-- what follows the entries of a circular answer, by the root's production: its line and the circle's
+abbrev pub rootLines : (ℕ → ℕ) → Report → ℕ → List ℕ
+rootLines n r p = rootLine p (take (n p) (r .root)) ++ circleLine (r .circle)
+
 -- what follows the first line
 unfoldable pub rest : Answer → List ℕ → (ℕ → List ℕ) → List ℕ
 rest Noncircular entries root = entries
@@ -108,11 +131,9 @@ rest OutOfSteps entries root = entries
 rest OutOfRoom entries root = entries
 
 unfoldable pub printed : (ℕ → ℕ) → Outcome → List ℕ
-printed n o =
-    firstLine (o .report)
-    ++ rest (o .report .answer) (entryLines n 0 (o .entries)) (λ p. rootLine p (take (n p) (o .report .root)))
+printed n o = firstLine (o .report) ++ rest (o .report .answer) (entryLines n 0 (o .entries)) (rootLines n (o .report))
 
 -- to name this on an `unfolding` line is to open every rule
 unfoldable pub linesOpened : Unit {0}
-unfolding placesBy places decimal counts firstLine spaced entryLine rootLine entryLines rest printed
+unfolding placesBy places decimal counts firstLine spaced entryLine rootLine linkText linksText circleLine entryLines rest printed
 linesOpened = tt

@@ -12,7 +12,8 @@ use Rattle.trees.specs.Compound.{IsGraph, NumberHolds}
 use Rattle.trees.specs.Record.{Entry, shownEntry, pairs, OfTree, Derived, Saturated}
 use Rattle.numbers.proofs.Ranges.{length-upFrom}
 use Rattle.numbers.proofs.Members.{upFrom-mem}
-use Rattle.trees.proofs.Lists.{distinct-upFrom, distinct-map, pigeons-numbered}
+use Rattle.numbers.proofs.Pigeons.{pigeons-numbered}
+use Rattle.trees.proofs.Lists.{distinct-upFrom, distinct-map}
 use Rattle.trees.proofs.Shown.{entry-shown}
 use Rattle.trees.proofs.Saturation.{all-stored}
 use Rattle.trees.proofs.Numbers.{told-apart}

@@ -10,7 +10,8 @@ use Rattle.grammar.specs.Grammar.{Grammar}
 use Rattle.trees.specs.Tree.{Tree, Complete, Instance, here, under, sameInstance, instances, TreeEdge, WellFormed}
 use Rattle.trees.specs.Evaluator.{Computed, left, given, notGiven, MayTake, StandsStill, Reached, Position, Choice, Evaluator, onward, play}
 use Rattle.numbers.proofs.Members.{at-cons}
-use Rattle.trees.proofs.Paths.{first-edge, before}
+use Rattle.numbers.proofs.Ways.{first-edge}
+use Rattle.trees.proofs.Paths.{before}
 use Rattle.trees.proofs.Values.{source-there, given-free, find, Search}
 use Rattle.trees.proofs.Exactly.{once}
 use Rattle.trees.proofs.Runs.{left-none, none-left, blocked, counted, something-ready}

@@ -6,8 +6,7 @@ use Rattle.numbers.specs.Paths.{Plus, Circle}
 use Rattle.grammar.specs.Grammar.{Grammar}
 use Rattle.trees.specs.Tree.{node, Kids, nil, cons, Instance, here, TreeEdge, KidEdge}
 use Rattle.trees.specs.Compound.{Compound, OverKids, IthHolds, OverGraphs, Makes, IsGraph, AreGraphs}
-use Rattle.numbers.proofs.Ways.{carried}
-use Rattle.trees.proofs.Paths.{first-edge}
+use Rattle.numbers.proofs.Ways.{carried, first-edge}
 use Rattle.trees.proofs.Compose.{root-graph, circle-below}
 
 -- a compound graph grows with the graphs of its subtrees

@@ -12,5 +12,7 @@ pub mod Graphs
 pub mod Shown
 pub mod Saturation
 pub mod Numbers
+pub mod EndsUp
+pub mod Saying
 pub mod Counting
 pub mod Samples

@@ -14,6 +14,7 @@ use Rattle.numbers.specs.Number.{bit}
 use Rattle.numbers.specs.Paths.{Plus, one, Circle}
 use Rattle.numbers.proofs.Bits.{bit-lt, same-bit, same-bits}
 use Rattle.numbers.proofs.Members.{keep-at, keep-mem}
+use Rattle.numbers.proofs.Ways.{first-edge, last-edge}
 use Rattle.grammar.specs.declared.Symbol.{Symbol}
 use Rattle.grammar.specs.declared.Production.{Production}
 use Rattle.grammar.specs.declared.Node.{Node}
@@ -21,11 +22,11 @@ use Rattle.grammar.specs.declared.Edge.{Edge}
 use Rattle.grammar.specs.Grammar.{Grammar, noSymbol, production, symbolAt, edgesOf}
 use Rattle.grammar.specs.Rules.{NodeThere}
 use Rattle.graph.specs.Compound.{CompoundEdge}
-use Rattle.trees.specs.Tree.{Instance, here, under, at, WellFormed, AtMost}
+use Rattle.trees.specs.Tree.{Instance, here, under, at, valueAt, WellFormed, AtMost}
 use Rattle.trees.specs.Address.{attribute}
 use Rattle.trees.specs.Compound.{Compound, IthHolds, OverGraphs, Makes, NumberHolds}
 use Rattle.trees.proofs.Lists.{getD-each}
-use Rattle.trees.proofs.Paths.{first-edge, last-edge, image}
+use Rattle.trees.proofs.Paths.{image}
 
 -- ---- graphs below 2 to the power w * w are told apart by their pairs
 
@@ -52,15 +53,12 @@ abbrev number : ℕ → Instance → ℕ
 number w (here a) = a
 number w (under i x) = w * suc i + number w x
 
-abbrev place : ℕ → ℕ → Instance
-place w n = at (n / w) (n % w)
-
 number-at : (w o a : ℕ) → number w (at o a) ≡ w * o + a
 number-at w zero a = omega arith
 number-at w (suc i) a = refl
 
-place-at : (w o a : ℕ) → a < w → place w (w * o + a) ≡ at o a
-place-at w o a h =
+value-at : (w o a : ℕ) → a < w → valueAt w (w * o + a) ≡ at o a
+value-at w o a h =
     let pos : 0 < w = omega arith in
     let d : (w * o + a) / w ≡ o = mul-add-div pos o a ∙ ap (λ (n : ℕ). o + n) (div-eq-of-lt h) ∙ add-zero o in
     ap₂ at d (mul-add-mod-self-left w o a ∙ mod-eq-of-lt h)
@@ -127,7 +125,7 @@ module _ (w : ℕ) (g : Grammar) (formed : WellFormed g) (few : AtMost w g) (p :
         pair = record { a = a; b = b; a-lt = h .1 .from; b-lt = h .1 .to; from = rw e; to = rw e; there = h .1 .worth };
       })
 
-  of-number : (n m : ℕ) → N n m → C (place w n) (place w m)
+  of-number : (n m : ℕ) → N n m → C (valueAt w n) (valueAt w m)
   of-number n m (inl h) =
       let e = h .edge in
       let k = own-edge e (h .given) in
@@ -136,14 +134,14 @@ module _ (w : ℕ) (g : Grammar) (formed : WellFormed g) (few : AtMost w g) (p :
         edge = e;
         among = k .0;
         which = k .1;
-        from = ap (place w) (h .from) ∙ place-at w (e .source .occurrence) (e .source .attribute) (source-below e (k .0));
-        to = ap (place w) (h .to) ∙ place-at w (e .target .occurrence) (e .target .attribute) (target-below e (k .0));
+        from = ap (valueAt w) (h .from) ∙ value-at w (e .source .occurrence) (e .source .attribute) (source-below e (k .0));
+        to = ap (valueAt w) (h .to) ∙ value-at w (e .target .occurrence) (e .target .attribute) (target-below e (k .0));
       })
   of-number n m (inr h) =
       let q = h .pair in
       let e = one-add (h .k) in
-      subst₂ C (sym (ap (place w) (rw e at (q .from)) ∙ place-at w (suc (h .k)) (q .a) (q .a-lt)))
-      (sym (ap (place w) (rw e at (q .to)) ∙ place-at w (suc (h .k)) (q .b) (q .b-lt)))
+      subst₂ C (sym (ap (valueAt w) (rw e at (q .from)) ∙ value-at w (suc (h .k)) (q .a) (q .a-lt)))
+      (sym (ap (valueAt w) (rw e at (q .to)) ∙ value-at w (suc (h .k)) (q .b) (q .b-lt)))
       (Compound.pair (ith-number w graphs (h .k) (q .a) (q .b) (h .given) (record { from = q .a-lt; to = q .b-lt; worth = q .there })))
 
   -- the compound graph has the same paths over the numbers of its nodes
@@ -152,14 +150,14 @@ module _ (w : ℕ) (g : Grammar) (formed : WellFormed g) (few : AtMost w g) (p :
       → Plus (OverGraphs g (NumberHolds w) p graphs) (at o a) (at q b) ↔ Plus (CompoundEdge w (edgesOf g p) graphs) (w * o + a) (w * q + b)
   numbered-paths o a q b ha hb = (
     λ r. subst₂ (Plus N) (number-at w o a) (number-at w q b) (image (number w) (λ x y e. one (to-number x y e)) r),
-    λ r. subst₂ (Plus C) (place-at w o a ha) (place-at w q b hb) (image (place w) (λ n m e. one (of-number n m e)) r),
+    λ r. subst₂ (Plus C) (value-at w o a ha) (value-at w q b hb) (image (valueAt w) (λ n m e. one (of-number n m e)) r),
   )
 
   -- and a circle exactly if it has one over them
   pub numbered-circles : Circle (OverGraphs g (NumberHolds w) p graphs) ↔ Circle (CompoundEdge w (edgesOf g p) graphs)
   numbered-circles = (
     λ c. (number w (c .0), image (number w) (λ x y e. one (to-number x y e)) (c .1)),
-    λ c. (place w (c .0), image (place w) (λ n m e. one (of-number n m e)) (c .1)),
+    λ c. (valueAt w (c .0), image (valueAt w) (λ n m e. one (of-number n m e)) (c .1)),
   )
 
   -- all attributes on its edges are below w

@@ -22,14 +22,6 @@ module _ {A : Type 0} {E : A → A → Type 0} where
   star-star stay q = q
   star-star (go p) q = go (plus-star p q)
 
-  pub first-edge : {x y : A} → Plus E x y → (z : A) × E x z
-  first-edge (one {y = z} e) = (z, e)
-  first-edge (snoc p e) = first-edge p
-
-  pub last-edge : {x y : A} → Plus E x y → (z : A) × E z y
-  last-edge {x} (one e) = (x, e)
-  last-edge (snoc {y = z} p e) = (z, e)
-
   -- on a circle the value before x is on a circle too
   pub before : {x : A} → Plus E x x → (z : A) × E z x × Plus E z z
   before {x} (one e) = (x, e, one e)

@@ -11,7 +11,7 @@ use Rattle.numbers.specs.Lists.{Distinct}
 use Rattle.numbers.specs.Paths.{Plus, one, Circle}
 use Rattle.trees.specs.Evaluator.{Computed, trueIf, taken, oneUnless, left, Ready, Run, start, take}
 use Rattle.numbers.proofs.Members.{at-cons}
-use Rattle.trees.proofs.Lists.{Without, without}
+use Rattle.numbers.proofs.Pigeons.{Without, without}
 use Rattle.trees.proofs.Paths.{Star, stay, go, plus-star, before}
 
 oneUnless-suc : (b : Bool) (n : ℕ) → oneUnless b (suc n) ≡ suc (oneUnless b n)

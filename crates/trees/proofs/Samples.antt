@@ -4,18 +4,24 @@ use mathlib.Core.Logic.{inl, inr}
 use mathlib.Core.Path.{_≡_, refl}
 use Prim.Native.Nat.{ℕ, zero, suc, _≤_, _<_}
 use native.Mathlib.Omega.{arith}
-use lib.ListN.{length}
+use lib.ListN.{length, replicate}
 use Rattle.numbers.specs.Number.{bit}
 use Rattle.numbers.specs.Lists.{upFrom, keep}
 use Rattle.numbers.specs.Paths.{one, snoc, Circle}
 use Rattle.grammar.specs.declared.Symbol.{Symbol}
 use Rattle.grammar.specs.declared.Production.{Production}
 use Rattle.grammar.specs.declared.Edge.{Edge}
-use Rattle.grammar.specs.Grammar.{symbolAt, edgesOf}
+use Rattle.grammar.specs.Grammar.{production, symbolAt, edgesOf}
 use Rattle.grammar.specs.Rules.{GoodEdge}
 use Rattle.trees.specs.Tree.{Tree, node, Kids, nil, cons, Complete, OneEach, InTable, Instance, here, under, at, instanceOf, instances, Link, Own, Joined, TreeEdge, KidEdge, Circular, WellFormed, AtMost}
+use Rattle.graph.specs.Rows.{link, own, placedTo, placedFrom, compound}
 use Rattle.graph.specs.Compound.{CompoundEdge}
+use Rattle.graph.specs.Search.{circleOf}
+use Rattle.graph.specs.Marks.{masksOf}
+use Rattle.graph.specs.Trails.{circleTrail}
+use Rattle.graph.specs.Opened.{openedSearch}
 use Rattle.trees.specs.Record.{Entry, shown}
+use Rattle.trees.specs.Said.{rowsOver}
 use Rattle.trees.specs.Small.{smallEdge, withEdges, grammarA, grammarB, grammarC, zeroOverOne}
 use Rattle.numbers.proofs.Members.{at-cons}
 use Rattle.trees.proofs.Paths.{no-circle}
@@ -79,6 +85,13 @@ entriesB (suc k) = record { symbol = 1; graph = 2048; production = 2; kids = [] 
 
 pub shown-B : shown entriesB 0 (0 ∷ []) ≡ zeroOverOne
 shown-B = refl
+
+-- the circle that is found, computed: 8 pair 10 edge 9 pair 11 edge
+pub trail-B :
+    circleTrail 8 (masksOf grammarB (production grammarB 0)) (circleOf (rowsOver 8 grammarB entriesB 0 (0 ∷ [])))
+    ≡ record { nodes = 8 ∷ 10 ∷ 9 ∷ 11 ∷ replicate 60 0; marks = 0 ∷ 1 ∷ 0 ∷ 1 ∷ replicate 60 0; len = 4 }
+unfolding openedSearch keep link own placedTo placedFrom compound
+trail-B = refl
 
 -- ---- A
 

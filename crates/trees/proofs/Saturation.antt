@@ -9,7 +9,7 @@ use Rattle.grammar.specs.Grammar.{Grammar, production, rights}
 use Rattle.trees.specs.Tree.{Tree, node, Kids, nil, cons, rootSymbol, Complete, OneEach, TreeEdge, KidEdge, Circular}
 use Rattle.trees.specs.Compound.{IsGraph, AreGraphs}
 use Rattle.trees.specs.Record.{Entry, KidsBelow, graphsAt, Stored, Saturated}
-use Rattle.trees.proofs.Paths.{first-edge}
+use Rattle.numbers.proofs.Ways.{first-edge}
 use Rattle.trees.proofs.Graphs.{makes-graph, graphs-circle}
 
 module _ (g : Grammar) {Graph : Type 0} (Holds : Graph → ℕ → ℕ → Type 0) (Part : ℕ → Type 0) (entry : ℕ → Entry Graph) (count : ℕ) where

@@ -89,6 +89,9 @@ module _ (g : Grammar) {Graph : Type 0} (Holds : Graph → ℕ → ℕ → Type 
     entry-shown k l = levels-show (suc k) k (omega arith) l
 
     module _ (p : ℕ) (ks : List ℕ) (part : Part p) (fits : KidsBelow entry count ks (rights (production g p))) where
+      pub shown-graphs : AreGraphs g Holds (graphsAt entry ks) (row (shownEntry entry) ks)
+      shown-graphs = row-graphs (shownEntry entry) count entry-shown p ks part fits
+
       pub shown-complete : Complete g Part (shown entry p ks)
       shown-complete = node-complete (shownEntry entry) count entry-shown p ks part fits
 

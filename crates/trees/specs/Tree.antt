@@ -1,7 +1,7 @@
 -- Finite complete trees over a grammar, the attributes of their nodes, and their attribute graphs. Assumes nothing.
 use mathlib.Core.List.{List, [], _∷_, _++_, map, List·Memᴰ}
 use mathlib.Core.Path.{_≡_}
-use Prim.Native.Nat.{ℕ, zero, suc, _≤_, _<_}
+use Prim.Native.Nat.{ℕ, zero, suc, _/_, _%_, _≤_, _<_}
 use native.Mathlib.Decide.{ℕ-discrete}
 use lib.ListN.{length}
 use Rattle.numbers.specs.Lists.{upFrom}
@@ -59,6 +59,10 @@ sameInstance = Instance-discrete ℕ-discrete
 abbrev pub at : ℕ → ℕ → Instance
 at zero a = here a
 at (suc i) a = under i (here a)
+
+-- the same by the number of the node in the root's compound graph, where an occurrence has w attributes
+abbrev pub valueAt : ℕ → ℕ → Instance
+valueAt w n = at (n / w) (n % w)
 
 abbrev pub instanceOf : Node → Instance
 instanceOf x = at (x .occurrence) (x .attribute)

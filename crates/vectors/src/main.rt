@@ -10,6 +10,7 @@ use grammar::SLOTS;
 use libc::STDIN_FILENO;
 use libc::STDOUT_FILENO;
 use lines::LINE_BYTES;
+use print::OTHER_LINES;
 use rules::Answer;
 use rules::MOST_ENTRIES;
 use rules::Report;
@@ -19,8 +20,10 @@ const TABLE_BYTES: usize = 65535;
 
 const KIDS: usize = SLOTS * MOST_ENTRIES;
 
-// For the line of each entry, and for two more.
-const TEXT_BYTES: usize = LINE_BYTES * (MOST_ENTRIES + 2);
+// For the line of each entry, and for the others.
+const TEXT_BYTES: usize = LINE_BYTES * (MOST_ENTRIES + OTHER_LINES);
+
+const SHORT_BYTES: usize = LINE_BYTES * OTHER_LINES;
 
 // Whether the input had enough for the whole buffer.
 fn fill(buf: &mut [u8]) -> bool {
@@ -35,7 +38,7 @@ fn table_buffer() -> [u8; TABLE_BYTES]
 }
 
 fn text_buffer() -> [u8; TEXT_BYTES]
-    ensures { λ r. ⌜ 524544 ≡ length r ⌝ }
+    ensures { λ r. ⌜ 525184 ≡ length r ⌝ }
 {
     [0; TEXT_BYTES]
 }
@@ -65,21 +68,23 @@ fn print_first(text: &[u8], count: usize) {
     }
 }
 
-fn root_line(text: &mut [u8], at: usize, table: &[u8], report: Report) -> usize {
+// The root's line, and its circle's.
+fn root_lines(text: &mut [u8], at: usize, table: &[u8], report: Report) -> usize {
     let answer = report.answer;
     let Answer::Circular(p) = answer else {
         return at;
     };
     let production = tables::production_of(table, numbers::wide(p));
     let root = report.root;
-    lines::put_root(text, at, p, root, numbers::wide(production.n))
+    let end = lines::put_root(text, at, p, root, numbers::wide(production.n));
+    print::put_circle(text, end, report.circle)
 }
 
-// The first line, and the root's.
+// The first line, and those that follow the entries.
 fn print_short(table: &[u8], report: Report) {
-    let mut text = [0u8; 256];
+    let mut text = [0u8; SHORT_BYTES];
     let at = lines::put_first(&mut text, 0, report);
-    let end = root_line(&mut text, at, table, report);
+    let end = root_lines(&mut text, at, table, report);
     print_first(&text, end);
 }
 

@@ -8,28 +8,20 @@ use Prim.Native.Nat.{ℕ}
 use lib.ListN.{length}
 use Rattle.numbers.specs.Paths.{Circle}
 use Rattle.grammar.specs.Grammar.{Grammar, production, edgesOf}
-use Rattle.graph.specs.Compound.{EdgesWithin}
 use Rattle.graph.proofs.Compound.{compound-circle, compound-root}
 use Rattle.trees.specs.Tree.{WellFormed, AtMost}
 use Rattle.trees.specs.Compound.{OverGraphs, Makes, NumberHolds}
-use Rattle.trees.proofs.Numbers.{source-below, target-below, own-edge, numbered-circles, numbered-makes}
+use Rattle.trees.proofs.Numbers.{numbered-circles, numbered-makes}
+use Rattle.trees.proofs.EndsUp.{within}
 use Rattle.rules.specs.Test.{systemOf}
 
 module _ (w : ℕ) (g : Grammar) (formed : WellFormed g) (few : AtMost w g) (p : ℕ) (graphs : List ℕ)
     (count : length graphs ≡ production g p .n) where
-  within : EdgesWithin w (length graphs) (edgesOf g p)
-  within e m =
-      let k = own-edge w g formed few p graphs e m in
-      let h = formed .edges e (k .0) in (
-        record { occurrence = rw (count, ← k .1) (h .source .occurrence); attribute = source-below w g formed few p graphs e (k .0) },
-        record { occurrence = rw (count, ← k .1) (h .target .occurrence); attribute = target-below w g formed few p graphs e (k .0) },
-      )
-
   -- the circle test finds a circle exactly if the compound graph has one
   pub circle-so : (systemOf w g .circle p graphs ≡ true) ↔ Circle (OverGraphs g (NumberHolds w) p graphs)
   unfolding systemOf
   circle-so =
-      let c = compound-circle w (edgesOf g p) graphs within in
+      let c = compound-circle w (edgesOf g p) graphs (within w g formed few p graphs count) in
       let n = numbered-circles w g formed few p graphs in
       (λ h. n .1 (c .0 h), λ h. c .1 (n .0 h))
 
@@ -38,4 +30,4 @@ module _ (w : ℕ) (g : Grammar) (formed : WellFormed g) (few : AtMost w g) (p :
   unfolding systemOf
   graph-so =
       numbered-makes w g formed few p graphs (systemOf w g .graph p graphs)
-      (compound-root w (edgesOf g p) graphs within)
+      (compound-root w (edgesOf g p) graphs (within w g formed few p graphs count))

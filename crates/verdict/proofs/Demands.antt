@@ -25,17 +25,18 @@ use Rattle.grammar.specs.declared.Checked.the-variants.{Good, Refused as Bad}
 use Rattle.rules.specs.declared.Answer.{Answer}
 use Rattle.rules.specs.declared.Answer.the-variants.{Noncircular, Circular, Refused, OutOfSteps, OutOfRoom}
 use Rattle.rules.specs.Passes.{Outcome, outcome, entry, noRoot, empty, pass, passesFrom, passes}
-use Rattle.rules.specs.Test.{systemIn, afterCheck, test}
+use Rattle.rules.specs.Test.{systemIn, saying, afterCheck, test}
 use Rattle.orders.specs.Answers as runs
 use Rattle.orders.proofs.Answers as runs-shown
 use Rattle.verdict.specs.Demands.{back, said, answer, NoRuleBroken, TreeOf, StartTree, HasCircle, SomeCircle, told, entryTree, shownTree, RefusedExactlyAlways, EntryShown, EntriesShownAlways, CircularShown, CircularShownAlways, NoncircularNoneAlways, NothingTriedAlways, LimitsKept, LimitsKeptAlways, StepsExactly, StepsExactlyAlways, RoomExactly, RoomExactlyAlways, RoomCounts, RoomCountsAlways, playEnd, Finishes, NeverStill, NeverStillAlways, GetsStuck, StandsStillLeft, StandsStillLeftAlways, StandsStillAboveAlways, PassesFollowed}
 use Rattle.verdict.proofs.Obeys.{obeys, exact}
+use Rattle.verdict.proofs.Saying.{sound-still, steps-still, room-still}
 use Rattle.verdict.proofs.Trees.{entry-shows, low, earlier, again, root-complete, root-circle, root-earlier, saturated}
 use Rattle.verdict.proofs.Words.{graph-of, tree-pair, of-tree}
 use Rattle.verdict.proofs.Room.{stored-once, stored-pairs, pairs-stored, no-more, one-more}
 
 -- ---- the cases of an answer are told apart
-abbrev case : Answer → ℕ
+abbrev pub case : Answer → ℕ
 case Noncircular = 0
 case (Circular p) = 1
 case (Refused k) = 2
@@ -46,10 +47,11 @@ module _ (bs : List ℕ) where
   abbrev ran : ℕ → ℕ → Outcome
   ran limit room = passes (systemIn bs) limit room (taking (grammarOf bs))
 
-  -- either the passes are run, or the table breaks a rule
-  taken : refusal bs ≡ Good → (limit room : ℕ) → back bs limit room ≡ ran limit room
+  -- either the passes are run and the circle is said, or the table breaks a rule
+  pub taken : refusal bs ≡ Good → (limit room : ℕ) → back bs limit room ≡ saying (widthOf bs) (grammarOf bs) (ran limit room)
   unfolding test afterCheck
-  taken e limit room = rw e
+  taken e limit room =
+      ap (λ (c : Checked). afterCheck c (saying (widthOf bs) (grammarOf bs) (ran limit room))) e
 
   pub refused : (b : Broken) → Breaks bs b → (limit room : ℕ) → back bs limit room ≡ outcome (Refused b) noRoot empty 0
   unfolding test afterCheck
@@ -70,7 +72,7 @@ module _ (bs : List ℕ) where
       go (inr (b, h)) = absurd (n b h)
 
   -- an answer other than a refusal is that of the passes
-  not-refused : (limit room : ℕ) (a : Answer) → answer bs limit room ≡ a → ¬ (case a ≡ 2) → refusal bs ≡ Good
+  pub not-refused : (limit room : ℕ) (a : Answer) → answer bs limit room ≡ a → ¬ (case a ≡ 2) → refusal bs ≡ Good
   not-refused limit room a h n = go either
     where
       go : (refusal bs ≡ Good) ⊎ ((k : Broken) × Breaks bs k) → refusal bs ≡ Good
@@ -80,8 +82,10 @@ module _ (bs : List ℕ) where
   module _ (good : refusal bs ≡ Good) where
     pub sound : (limit room : ℕ) → runs.Sound (systemIn bs) (Found (grammarOf bs)) limit room (back bs limit room)
     sound limit room =
-        subst (runs.Sound (systemIn bs) (Found (grammarOf bs)) limit room) (sym (taken good limit room))
-        (runs-shown.outcome-sound (systemIn bs) (taking (grammarOf bs)) limit room)
+        let W = systemIn bs in
+        subst (runs.Sound W (Found (grammarOf bs)) limit room) (sym (taken good limit room))
+        (sound-still (widthOf bs) (grammarOf bs) W (Found (grammarOf bs)) limit room (ran limit room)
+        (runs-shown.outcome-sound W (taking (grammarOf bs)) limit room))
 
 -- ---- demand 1
 pub refused-exactly : RefusedExactlyAlways back
@@ -199,7 +203,9 @@ steps-exactly bs L M room lt = go (either bs)
   where
     go : (refusal bs ≡ Good) ⊎ ((k : Broken) × Breaks bs k) → StepsExactly bs L M room (back bs L room)
     go (inl e) =
-        let x = runs-shown.steps-exactly (systemIn bs) (taking (grammarOf bs)) L M room lt in
+        let x =
+        steps-still (widthOf bs) (grammarOf bs) L (ran bs L room) (ran bs M room)
+        (runs-shown.steps-exactly (systemIn bs) (taking (grammarOf bs)) L M room lt) in
         let y = subst₂ (runs.StepsCompared L) (sym (taken bs e L room)) (sym (taken bs e M room)) x in
         record { exactly = y .exactly; else = y .else }
     go (inr (k, b)) =
@@ -220,10 +226,11 @@ room-exactly bs limit l R S lt low high = go (either bs)
     go (inl e) =
         let W = systemIn bs in
         let c = ap (λ (o : Outcome). o .report .closures) (taken bs e limit R) in
-        let x = runs-shown.room-exactly W (taking (grammarOf bs)) limit R S l lt (omega arith) high in
+        let still = room-still (widthOf bs) (grammarOf bs) R (ran bs limit R) in
+        let x = still (ran bs l S) (runs-shown.room-exactly W (taking (grammarOf bs)) limit R S l lt (omega arith) high) in
         let y = subst₂ (runs.RoomCompared R) (sym (taken bs e limit R)) (sym (taken bs e l S)) x in
         let s = runs-shown.outcome-sound W (taking (grammarOf bs)) limit R in
-        let u = runs-shown.room-exactly W (taking (grammarOf bs)) limit R S limit lt (s .closures) (omega arith) in
+        let u = still (ran bs limit S) (runs-shown.room-exactly W (taking (grammarOf bs)) limit R S limit lt (s .closures) (omega arith)) in
         let v = subst₂ (runs.RoomCompared R) (sym (taken bs e limit R)) (sym (taken bs e limit S)) u in
         record { exactly = y .exactly; else = v .else }
     go (inr (k, b)) =

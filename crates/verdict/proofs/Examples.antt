@@ -1,17 +1,20 @@
 -- Each demand at A, B and R: what it asks can be met; and where the start symbol makes a difference. Assumes nothing.
-use mathlib.Core.Path.{_≡_, refl, subst}
+use mathlib.Core.Bool.{false}
+use mathlib.Core.Path.{_≡_, refl, ap, subst}
 use mathlib.Core.List.{List, [], _∷_, List·Memᴰ, List·Memᴰ·head}
 use mathlib.Core.Logic.{_↔_}
-use Prim.Native.Nat.{ℕ, zero, suc}
+use Prim.Native.Nat.{ℕ, zero, suc, _≤_}
 use native.Mathlib.Omega.{arith}
-use lib.ListN.{length, take, set}
+use lib.ListN.{length, take, set, replicate}
 use Rattle.grammar.specs.Table.{grammarOf}
 use Rattle.grammar.specs.declared.Broken.the-variants.{Rule, Record}
 use Rattle.grammar.specs.Rules.{Breaks}
 use Rattle.numbers.specs.Paths.{one, Circle}
-use Rattle.trees.specs.Tree.{Tree, node, Kids, nil, cons, rootSymbol, OneEach, InTable, here, at, Own, Joined}
+use Rattle.graph.specs.declared.Trail.{Trail}
+use Rattle.graph.specs.Trails.{noTrail}
+use Rattle.trees.specs.Tree.{Tree, node, Kids, nil, cons, rootSymbol, OneEach, InTable, Instance, here, at, Own, Joined}
 use Rattle.trees.specs.Address.{first, whole, down}
-use Rattle.trees.specs.Evaluator.{notGiven, Evaluator, play}
+use Rattle.trees.specs.Evaluator.{Computed, notGiven, Reached, Evaluator, play}
 use Rattle.trees.specs.Small.{smallEdge, grammarA, grammarB, grammarC}
 use Rattle.trees.proofs.Starts.{circle-from-start}
 use Rattle.rules.specs.declared.Answer.the-variants.{Noncircular, Circular, Refused, OutOfSteps, OutOfRoom}
@@ -19,7 +22,9 @@ use Rattle.rules.specs.Opened.{opened}
 use Rattle.rules.specs.Passes.{outcome, noRoot, empty}
 use Rattle.rules.specs.Small.{tableA, tableB, tableC, tableR, tableSpare, tableEndless, tableBarren}
 use Rattle.verdict.specs.Demands.{back, answer, NoRuleBroken, TreeOf, StartTree, BelowStart, NoStartTree, PathIn, HasCircle, GraphOf, TreePair, entryTree, shownTree, NoncircularNone, MorePairs, storedPairs, NeverStill, StandsStillLeft}
+use Rattle.verdict.specs.Circle.{nodesSaid, marksSaid, IsRootCircle, RootEdge, KidPair, LeastCircleSaid, NodeWaits}
 use Rattle.verdict.proofs.Demands.{refused-exactly, entries-shown, circular-shown, noncircular-none, start-without-tree, steps-exactly, room-exactly, room-counts, never-still, never-still-start, stands-still, stands-still-above}
+use Rattle.verdict.proofs.Circle.{circle-said, never-both, circle-waits}
 
 -- ---- the bytes of A, B and C are the grammars that the trees' samples have as records
 pub grammar-A : grammarOf tableA ≡ grammarA
@@ -156,6 +161,45 @@ circle-B = circular-shown tableB 3 2 0 circular-B .circle
 
 pub still-B : StandsStillLeft tableB (shownTree tableB (back tableB 3 2) 0)
 still-B = stands-still tableB 3 2 0 circular-B
+
+-- the circle that is said at B, from attribute 0 of the subtree's root: a pair to 2, an edge to 1, a pair to 3, and an edge back
+pub trail-B :
+    back tableB 3 2 .report .circle
+    ≡ record { nodes = 8 ∷ 10 ∷ 9 ∷ 11 ∷ replicate 60 0; marks = 0 ∷ 1 ∷ 0 ∷ 1 ∷ replicate 60 0; len = 4 }
+unfolding opened tableB
+trail-B = refl
+
+nodes-B : nodesSaid (back tableB 3 2) ≡ 8 ∷ 10 ∷ 9 ∷ 11 ∷ []
+nodes-B = ap (λ (t : Trail). take (t .len) (t .nodes)) trail-B
+
+marks-B : marksSaid (back tableB 3 2) ≡ 0 ∷ 1 ∷ 0 ∷ 1 ∷ []
+marks-B = ap (λ (t : Trail). take (t .len) (t .marks)) trail-B
+
+least-circle-B : LeastCircleSaid tableB 0 (back tableB 3 2)
+least-circle-B = circle-said tableB 3 2 .circular 0 circular-B
+
+none-shorter-B : (c : List ℕ) → IsRootCircle tableB 0 (back tableB 3 2) c → 4 ≤ length c
+none-shorter-B c h = omega (arith, least-circle-B .shortest c h, ap length nodes-B)
+
+pair-B : KidPair tableB 0 (back tableB 3 2) 8 10
+pair-B = rw (nodes-B, marks-B) at (least-circle-B .pairs 0) (omega arith) .0 refl
+
+edge-B : RootEdge tableB 0 (back tableB 3 2) 10 9
+edge-B = rw (nodes-B, marks-B) at (least-circle-B .edges 1) (omega arith) .0 refl
+
+not-both-B : ¬ RootEdge tableB 0 (back tableB 3 2) 8 10
+not-both-B e = never-both tableB 3 2 0 circular-B 8 10 e pair-B
+
+-- the value of its first node is never computed
+waits-B : NodeWaits tableB (shownTree tableB (back tableB 3 2) 0) 8
+waits-B = circle-waits tableB 3 2 0 circular-B 8 (rw nodes-B (List·Memᴰ·head refl))
+
+never-B : {k : ℕ} {d : Computed Instance} → Reached (grammarOf tableB) (node 0 (cons (node 1 nil) nil)) k d → d (at 1 0) ≡ false
+never-B {k} {d} r = (rw shown-B at waits-B) .never r
+
+-- A has none to say
+pub none-said-A : back tableA 10 3 .report .circle ≡ noTrail
+none-said-A = circle-said tableA 10 3 .else (λ p e. let z : _≡_ {A = ℕ} 0 1 = cc noncircular-A in omega arith)
 
 -- B makes 3 closures and stores 2 entries
 pub closures-B : back tableB 3 2 .report .closures ≡ 3

@@ -9,10 +9,13 @@ pub use Rattle.trees.proofs.Addresses.{each-at-its-node}
 pub use Rattle.trees.proofs.Exactly.{exactly, once}
 pub mod Bridge
 pub mod Obeys
+pub mod Saying
 pub mod Trees
 pub mod Room
 pub mod Words
 pub mod Demands
+pub mod Circle
+pub mod OnlyCircle
 pub mod Program
 pub mod Ways
 pub mod Examples

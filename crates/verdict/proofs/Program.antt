@@ -20,6 +20,7 @@ use Rattle.rows.proofs.Writing.{length-written}
 use Rattle.verdict.specs.Demands.{back, RoomExactly}
 use Rattle.verdict.specs.Program.{Stands, RestBefore, LongAsBefore, Demanded, Program}
 use Rattle.verdict.proofs.Demands.{refused-exactly, entries-shown, circular-shown, noncircular-none, start-without-tree, limits-kept, steps-exactly, room-exactly, room-counts, never-still, stands-still, stands-still-above}
+use Rattle.verdict.proofs.Circle.{circle-said, never-both, circle-waits}
 
 -- ---- read off the slices
 
@@ -130,9 +131,12 @@ demanded bs limit R o e = subst (Demanded bs limit R) (sym e) (record {
   steps = λ M l. steps-exactly bs limit M R l;
   room = λ l S. room-exactly bs limit l R S;
   room-counts = room-counts bs limit R;
+  circle = circle-said bs limit R;
+  never-both = never-both bs limit R;
   never-still = never-still bs limit R;
   stands-still = stands-still bs limit R;
   stands-still-above = stands-still-above bs limit R;
+  circle-waits = circle-waits bs limit R;
 })
 
 -- so after any answer more room can be asked about: with the closures that were made, or with the limit

@@ -1,21 +1,28 @@
--- From what the passes store to trees: each entry is derived, a circular root has a circle, a saturated store has every tree. Over the
--- number w of attributes and the productions that take part, for any outcome that is sound. Assumes nothing.
+-- From what the passes store to trees: each entry is derived, a circular root has a circle and says it, a saturated store has every tree.
+-- Over the number w of attributes and the productions that take part, for any outcome that is sound. Assumes nothing.
 use mathlib.Core.Path.{_≡_, sym, _∙_, subst}
 use mathlib.Core.Bool.{true≢false}
 use mathlib.Core.List.{List, List·Memᴰ}
 use Prim.Native.Nat.{ℕ, _*_, _^_, _<_}
-use lib.ListN.{length}
+use lib.ListN.{length, getD}
 use Rattle.numbers.specs.Paths.{Circle}
-use Rattle.grammar.specs.Grammar.{Grammar, production, rights}
+use Rattle.grammar.specs.Grammar.{Grammar, production, rights, edgesOf}
+use Rattle.graph.specs.Compound.{OwnEdge, SubtreePair}
+use Rattle.graph.specs.Search.{circleOf}
+use Rattle.graph.specs.Marks.{masksOf, marksOf}
 use Rattle.graph.proofs.Root.{root-lt}
+use Rattle.graph.proofs.Marks.{never-both}
 use Rattle.trees.specs.Tree.{Complete, TreeEdge, WellFormed, AtMost}
 use Rattle.trees.specs.Compound.{Makes, NumberHolds}
 use Rattle.trees.specs.Record as record-of-trees
 use Rattle.trees.specs.Record.{shownEntry, shown, Derived, Shows, OfTree}
+use Rattle.trees.specs.Said.{Said}
 use Rattle.trees.proofs.Shown.{fits-below, graphs-count, entry-shown, shown-complete, shown-graph, shown-circle, shown-again}
+use Rattle.trees.proofs.EndsUp.{within, all-allowed, entries-end-up}
+use Rattle.trees.proofs.Saying.{circle-said}
 use Rattle.rules.specs.declared.Entry.{Entry}
 use Rattle.rules.specs.Passes.{System, entry, graphs, counting}
-use Rattle.rules.specs.Test.{closed, systemOf}
+use Rattle.rules.specs.Test.{closed, systemOf, rootRows}
 use Rattle.orders.specs.Stored.{Combination, Made, Root, AllMade}
 use Rattle.verdict.specs.Demands.{told}
 use Rattle.verdict.proofs.Bridge.{circle-so, graph-so}
@@ -115,6 +122,23 @@ module _ (w : ℕ) (g : Grammar) (formed : WellFormed g) (few : AtMost w g) (Par
           (root .kids .part) root-fits
           (circle-so w g formed few p (graphs es (counting (rights (production g p)) slots)) (counted es (length es) p (counting (rights (production g p)) slots) (root .kids .fits)) .0
           (root .round))
+
+      -- what the circle of its compound graph says
+      pub root-said :
+          let c = circleOf (rootRows w g es p slots) in
+          Said w g (told g es) p (counting (rights (production g p)) slots) c (marksOf w (masksOf g (production g p)) c (getD c 0 0))
+      unfolding systemOf
+      root-said =
+          circle-said w g formed few Part (told g es) (length es) all-derived p (counting (rights (production g p)) slots) root-fits
+          (root .kids .part) (root .round)
+
+      -- no link is both an edge and a pair
+      pub root-never-both : (i j : ℕ) → OwnEdge w (edgesOf g p) i j → ¬ SubtreePair w 1 (graphs es (counting (rights (production g p)) slots)) i j
+      root-never-both =
+          let ks = counting (rights (production g p)) slots in
+          never-both w (edgesOf g p) (graphs es ks) (masksOf g (production g p))
+          (within w g formed few p (graphs es ks) (counted es (length es) p ks root-fits)) (all-allowed w g formed few p (graphs es ks))
+          (entries-end-up w g formed few Part (told g es) (length es) all-derived p ks root-fits)
 
   -- a store to which nothing is left to add
   pub saturated : (es : List Entry) → AllMade (systemOf w g) Part es

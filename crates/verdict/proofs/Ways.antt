@@ -7,18 +7,19 @@ use Prim.Native.Nat.{ℕ, zero, suc, _+_, _≤_}
 use native.Mathlib.Omega.{arith}
 use lib.Dec.{eqb}
 use lib.ListN.{length, getD, take, drop, length-take, drop-of-length-le}
-use lib.Seq.{drop-cons, take-at, getD-take}
+use lib.Seq.{drop-cons, take-at, drop-at, getD-take}
 use borrow.Author.Tests.{ne-eqb}
 use contract.Monad.{fact-mono}
 use denote.Ref.{now}
 use Rattle.numbers.specs.Lists.{upFrom, written}
 use Rattle.grammar.specs.Grammar.{production}
-use Rattle.grammar.specs.Table.{grammarOf}
+use Rattle.grammar.specs.Table.{widthOf, grammarOf}
 use Rattle.grammar.specs.Rules.{EdgeBreaks, Breaks}
 use Rattle.grammar.specs.declared.Broken.{Broken}
 use Rattle.grammar.specs.declared.Broken.the-variants.{Record}
 use Rattle.grammar.specs.declared.Checked.the-variants.{Good}
 use Rattle.grammar.specs.Refusal.{refusal}
+use Rattle.graph.specs.Parts.{mostNodes}
 use Rattle.trees.proofs.Values.{length-rights}
 use Rattle.parts.specs.Exactly.{Found}
 use Rattle.rules.specs.declared.Answer.{Answer}
@@ -38,11 +39,12 @@ use Rattle.orders.specs.Answers as runs
 use Rattle.orders.specs.Stored.{Slots}
 use Rattle.texts.specs.Lines.{kidsIn}
 use Rattle.texts.specs.Telling.{OthersZero, RootZero, UnprintedZero}
-use Rattle.texts.proofs.Telling.{printed-tells}
+use Rattle.texts.proofs.Telling.{said-zero, printed-tells}
 use Rattle.verdict.specs.Demands.{back, answer}
 use Rattle.verdict.specs.Ways.{slicesGiven, slicesLeft, ProgramAlways, readRow, RowProgram, RowAlways, answerFrom, unflat, NumbersTell, exportGiven, exportLeft, numbersLeft, ExportAlways, TextTells, TouchedFalls, TouchedRowFalls}
 use Rattle.verdict.proofs.Obeys.{obeys}
 use Rattle.verdict.proofs.Demands.{refused, either, sound}
+use Rattle.verdict.proofs.Circle.{circle-is, places-said}
 use Rattle.verdict.proofs.Program.{behind, demanded, carried}
 
 -- ---- over lent slices
@@ -118,12 +120,15 @@ unprinted-zero bs limit room = go (either bs)
         record {
           kids = λ k l. others bs good k _ _ (back bs limit room) (s .made k l .kids);
           root = root-zero bs good limit room (back bs limit room) (answer bs limit room) (s .says);
+          circle =
+              rw (circle-is bs limit room)
+              (said-zero (widthOf bs) (grammarOf bs) (back bs limit room .entries) (back bs limit room .report .root) (answer bs limit room));
         }
     go (inr (k, b)) =
         subst (UnprintedZero (kidsIn bs)) (sym (refused bs k b limit room))
-        (record { kids = λ j l. absurd (omega arith); root = refl })
+        (record { kids = λ j l. absurd (omega arith); root = refl; circle = refl })
 
--- ---- the twelve numbers
+-- ---- the numbers where Rust and C call it
 
 -- the number of a broken rule is no other answer's, and that of a record is no missing one's
 broken-told : (bs : List ℕ) (b : Broken) → Breaks bs b → answerFrom (numberOf (Refused b)) (valueOf (Refused b)) ≡ Refused b
@@ -150,11 +155,20 @@ places-told l i (suc n) h =
     ap (λ (t : List ℕ). getD l i 0 ∷ t) (places-told l (suc i) n (omega arith)) ∙ sym (drop-cons l i 0 (omega arith))
 
 report-told : (r : Report) → answerFrom (numberOf (r .answer)) (valueOf (r .answer)) ≡ r .answer → length (r .root) ≡ 7
-    → unflat (flat r) ≡ r
+    → length (r .circle .nodes) ≡ mostNodes → unflat (flat r) ≡ r
 unfolding upFrom
-report-told r h l =
+report-told r h l n =
     let root = places-told (r .root) 0 7 l in
-    λ j. record { answer = h j; closures = r .closures; entries = r .entries; passes = r .passes; root = root j }
+    let nodes = take-at (r .circle .nodes) (r .circle .marks) mostNodes n in
+    let marks = drop-at (r .circle .nodes) (r .circle .marks) mostNodes n in
+    λ j. record {
+      answer = h j;
+      closures = r .closures;
+      entries = r .entries;
+      passes = r .passes;
+      root = root j;
+      circle = record { nodes = nodes j; marks = marks j; len = r .circle .len };
+    }
 
 module _ (bs : List ℕ) (good : refusal bs ≡ Good) where
   kids-few : (p : ℕ) → kidsIn bs p ≤ 7
@@ -183,10 +197,10 @@ numbers-tell bs limit room = go (either bs)
     go : (refusal bs ≡ Good) ⊎ ((k : Broken) × Breaks bs k) → unflat (flat (back bs limit room .report)) ≡ back bs limit room .report
     go (inl good) =
         let t = said-told bs good limit room (back bs limit room) (answer bs limit room) (sound bs good limit room .says) in
-        report-told (back bs limit room .report) (t .0) (t .1)
+        report-told (back bs limit room .report) (t .0) (t .1) (places-said bs limit room)
     go (inr (k, b)) =
         subst (λ (o : Outcome). unflat (flat (o .report)) ≡ o .report) (sym (refused bs k b limit room))
-        (report-told _ (broken-told bs k b) refl)
+        (report-told _ (broken-told bs k b) refl refl)
 
 pub program-of-export : ExportAlways
 program-of-export κs a r s promised =

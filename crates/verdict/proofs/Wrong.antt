@@ -1,11 +1,14 @@
 -- Each wrong version falls to the demand that it fails, whatever else it does. Assumes nothing.
-use mathlib.Core.Path.{_≡_, refl, sym, ap, _∙_}
+use mathlib.Core.Path.{_≡_, refl, sym, ap, _∙_, subst}
+use mathlib.Core.List.{List}
 use mathlib.Core.Bool.{true≢false}
 use Prim.Native.Nat.{ℕ}
 use native.Mathlib.Omega.{arith}
 use lib.ListN.{length}
 use Rattle.grammar.specs.declared.Broken.the-variants.{Rule}
 use Rattle.grammar.specs.Table.{grammarOf}
+use Rattle.graph.specs.declared.Trail.{Trail}
+use Rattle.graph.specs.Trails.{noTrail}
 use Rattle.trees.specs.Tree.{Tree}
 use Rattle.trees.specs.Evaluator.{Evaluator}
 use Rattle.rules.specs.declared.Answer.{Answer}
@@ -14,9 +17,11 @@ use Rattle.rules.specs.Passes.{Outcome, outcome, noRoot, empty}
 use Rattle.rules.specs.Opened.{opened}
 use Rattle.rules.specs.Small.{tableA, tableB, tableSpare, tableBarren}
 use Rattle.verdict.specs.Demands.{Version, back, said, shownTree, CircularShown, RefusedExactlyAlways, CircularShownAlways, NoncircularNone, NoncircularNoneAlways, NothingTriedAlways, StepsExactlyAlways, RoomExactlyAlways, RoomCountsAlways, Finishes, NeverStill, NeverStillAlways, PassesFollowed}
-use Rattle.verdict.specs.Wrong.{RefusesEvery, AlwaysOutOfSteps, AlwaysOutOfRoom, AlwaysNoncircular, AlwaysCircular, StoresNothing, BeginsOnePass, onePass, everyProduction, AlwaysCounts, constantly}
+use Rattle.verdict.specs.Circle.{CircleSaid, CircleSaidAlways, withCircle}
+use Rattle.verdict.specs.Wrong.{RefusesEvery, AlwaysOutOfSteps, AlwaysOutOfRoom, AlwaysNoncircular, AlwaysCircular, StoresNothing, BeginsOnePass, onePass, everyProduction, silent, closedCircle, circleOfB, SaysAnotherCircle, AlwaysCounts, constantly}
 use Rattle.verdict.proofs.Demands.{circular-shown, some-circle}
-use Rattle.verdict.proofs.Examples.{unbroken-A, none-A, closures-A, entries-A, not-three, circular-B, still-B, closures-B, entries-B, none-spare, no-tree-barren, unbroken-barren}
+use Rattle.verdict.proofs.OnlyCircle.{only-circle}
+use Rattle.verdict.proofs.Examples.{unbroken-A, none-A, closures-A, entries-A, not-three, none-said-A, circular-B, still-B, trail-B, closures-B, entries-B, none-spare, no-tree-barren, unbroken-barren}
 
 -- ---- demand 1: only bad tables are refused, and A is not bad
 pub refuses-every : (v : Version) → RefusedExactlyAlways v → ¬ RefusesEvery v
@@ -150,6 +155,37 @@ invented-count v demand n wrong =
       wrong tableA 10 3,
       wrong tableB 3 2,
     )
+
+-- ---- the circle: whatever else is said in its place
+pub another-circle : (v : Version) → CircleSaidAlways v → (bs : List ℕ) (limit room : ℕ) → ¬ SaysAnotherCircle bs limit room v
+another-circle v demand bs limit room (t, is, other) = other (only-circle bs limit room t (subst (CircleSaid bs) is (demand bs limit room)))
+
+links-B : back tableB 3 2 .report .circle .len ≡ 4
+links-B = ap (λ (t : Trail). t .len) trail-B
+
+silent-B : silent tableB 3 2 ≡ withCircle noTrail (back tableB 3 2)
+unfolding opened tableB
+silent-B = refl
+
+pub says-none : ¬ CircleSaidAlways silent
+says-none demand =
+    another-circle silent demand tableB 3 2 (noTrail, silent-B, λ e. omega (arith, links-B, ap (λ (t : Trail). t .len) e))
+
+-- in the closed rows a shortest circle has one link
+links-closed : closedCircle tableB 3 2 .report .circle .len ≡ 1
+unfolding opened tableB
+links-closed = refl
+
+pub closed-circle : ¬ CircleSaidAlways closedCircle
+closed-circle demand =
+    another-circle closedCircle demand tableB 3 2
+    (closedCircle tableB 3 2 .report .circle, refl, λ e. omega (arith, links-B, links-closed, ap (λ (t : Trail). t .len) e))
+
+-- A has none to say
+pub circle-of-B : ¬ CircleSaidAlways circleOfB
+circle-of-B demand =
+    another-circle circleOfB demand tableA 10 3
+    (back tableB 3 2 .report .circle, refl, λ e. omega (arith, links-B, ap (λ (t : Trail). t .len) (e ∙ none-said-A)))
 
 -- ---- such versions there are
 abbrev quick : Answer → Outcome

@@ -106,9 +106,13 @@ entryOf bs o = told (grammarOf bs) (o .entries)
 abbrev pub entryTree : List ℕ → Outcome → ℕ → Tree
 entryTree bs o = shownEntry (entryOf bs o)
 
+-- the entry numbers of a circular answer's root, one for each right symbol of its production
+abbrev pub rootKids : List ℕ → Outcome → ℕ → List ℕ
+rootKids bs o p = counting (rights (production (grammarOf bs) p)) (o .report .root)
+
 -- the shown tree of a circular answer: the root's production, and below it the trees of its entry numbers
 abbrev pub shownTree : List ℕ → Outcome → ℕ → Tree
-shownTree bs o p = shown (entryOf bs o) p (counting (rights (production (grammarOf bs) p)) (o .report .root))
+shownTree bs o p = shown (entryOf bs o) p (rootKids bs o p)
 
 -- ---- demand 1: a bad table is refused by number, and no other; then nothing is counted or stored
 pub record RefusedExactly (bs : List ℕ) (b : Broken) (o : Outcome) : Type 0 where
@@ -142,7 +146,7 @@ pub record CircularShown (bs : List ℕ) (p : ℕ) (o : Outcome) : Type 0 where
   pub complete : TreeOf bs (shownTree bs o p)
   pub from-start : BelowStart bs (shownTree bs o p)
   pub circle : HasCircle bs (shownTree bs o p)
-  pub earlier : (j : ℕ) → List·Memᴰ j (counting (rights (production (grammarOf bs) p)) (o .report .root)) → j < length (o .entries)
+  pub earlier : (j : ℕ) → List·Memᴰ j (rootKids bs o p) → j < length (o .entries)
 
 abbrev pub CircularShownAlways : Version → Type 0
 CircularShownAlways v =
@@ -278,6 +282,6 @@ abbrev pub StandsStillAboveAlways : Version → Type 0
 StandsStillAboveAlways v =
     (bs : List ℕ) (limit room p : ℕ) → said (v bs limit room) ≡ Circular p → StandsStillAbove bs (shownTree bs (v bs limit room) p)
 
--- ---- and every outcome, with its counts and its entries, is that of the passes
+-- ---- and every outcome, with its counts, its entries and its circle, is that of the rules
 abbrev pub PassesFollowed : Version → Type 0
 PassesFollowed v = (bs : List ℕ) (limit room : ℕ) → v bs limit room ≡ back bs limit room

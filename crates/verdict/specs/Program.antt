@@ -12,6 +12,7 @@ use Rattle.rules.specs.declared.Report.{Report}
 use Rattle.rules.specs.Passes.{Outcome, entry}
 use Rattle.passes.specs.Slices.{Slices, roomOf, readOut}
 use Rattle.verdict.specs.Demands.{back, said, NoRuleBroken, BelowStart, NoStartTree, shownTree, RefusedExactly, EntryShown, CircularShown, NoncircularNone, NothingTried, LimitsKept, StepsExactly, RoomExactly, RoomCounts, NeverStill, StandsStillLeft, StandsStillAbove}
+use Rattle.verdict.specs.Circle.{CircleSaid, NeverBoth, CircleWaits}
 
 -- the entry k of what comes back stands at k in the slices
 pub record Stands (bs : List ℕ) (limit : ℕ) (σ τ : Slices) (k : ℕ) : Type 0 where
@@ -48,13 +49,17 @@ pub record Demanded (bs : List ℕ) (limit R : ℕ) (o : Outcome) : Type 0 where
   pub steps : (M : ℕ) → limit < M → StepsExactly bs limit M R o
   pub room : (l S : ℕ) → R < S → o .report .closures ≤ l → l ≤ limit → RoomExactly bs limit l R S o
   pub room-counts : NoRuleBroken bs → NoncircularNone bs → ¬ (said o ≡ OutOfSteps) → RoomCounts bs R o
+  -- the circle that is said
+  pub circle : CircleSaid bs o
+  pub never-both : (p : ℕ) → said o ≡ Circular p → NeverBoth bs p o
   -- 3: evaluators
   pub never-still : said o ≡ Noncircular → (t : Tree) → BelowStart bs t → NeverStill bs t
   pub stands-still : (p : ℕ) → said o ≡ Circular p → StandsStillLeft bs (shownTree bs o p)
   pub stands-still-above : (p : ℕ) → said o ≡ Circular p → StandsStillAbove bs (shownTree bs o p)
+  pub circle-waits : (p : ℕ) → said o ≡ Circular p → CircleWaits bs p o
 
 pub record Program (bs : List ℕ) (limit : ℕ) (σ : Slices) (r : Report) (τ : Slices) : Type 0 where
-  -- the report with its counts and its root, every entry, and the rest of the room; after a refusal all of it
+  -- the report with its counts, its root and its circle, every entry, and the rest of the room; after a refusal all of it
   pub report : r ≡ back bs limit (roomOf σ) .report
   pub long : LongAsBefore σ τ
   pub entries : (k : ℕ) → k < r .entries → Stands bs limit σ τ k

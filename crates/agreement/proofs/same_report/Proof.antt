@@ -2,7 +2,7 @@
 use mathlib.Core.Path.{sym, ap, _∙_}
 use Rattle.rules.specs.declared.Report.{Report}
 use Rattle.agreement.specs.Agreement.{caseOf, heldIn, recordIn}
-use Rattle.agreement.proofs.Exactly.{never, same-report}
+use Rattle.agreement.proofs.Exactly.{never, said-no, said-yes, same-report}
 use borrow.Author.Needs.{needs}
 use Rattle.agreement.proofs.same_report.Statement.{statement}
 use Rattle.agreement.proofs.same_report.Tie as tie
@@ -50,15 +50,22 @@ same-slots-requires : tie.Need-same-slots-requires
 same-slots-requires c κs = search needs
 
 returns-7 : tie.Need-returns-7
-returns-7 c =
-    let which = c .before .before .before .before .before .before .before .before .before .before .before .before in
+returns-7 c = never (λ e. said-no _ (c .before .same-slots .ensures) (c .if7 .taken) (ap (λ (x : Report). x .root) e))
+
+same-trail-requires : tie.Need-same-trail-requires
+same-trail-requires c κs = search needs
+
+returns-8 : tie.Need-returns-8
+returns-8 c =
+    let slots = c .before .before in
+    let which = slots .before .before .before .before .before .before .before .before .before .before .before .before in
     let held = which .before .before .before in
     let case = held .before .before .before in
     same-report _ _ _
     (sym (case .before .before .case-of .ensures) ∙ case .if1 .left ∙ case .before .case-of2 .ensures)
     (sym (held .before .before .held-in .ensures) ∙ held .if2 .left ∙ held .before .held-in2 .ensures)
     (sym (which .before .before .record-in .ensures) ∙ which .if3 .left ∙ which .before .record-in2 .ensures)
-    (c .before .before .before .before .before .before .before .before .before .if4 .left) (c .before .before .before .before .before .before .if5 .left) (c .before .before .before .if6 .left) (c .same-slots .ensures)
+    (slots .before .before .before .before .before .before .before .before .before .if4 .left) (slots .before .before .before .before .before .before .if5 .left) (slots .before .before .before .if6 .left) (said-yes _ (slots .same-slots .ensures) (c .before .if7 .left)) (c .same-trail .ensures)
 
 pub same-report-spec : {M : Type 1} → statement M
 same-report-spec =
@@ -77,4 +84,6 @@ same-report-spec =
     returns-5
     returns-6
     same-slots-requires
-    returns-7)
+    returns-7
+    same-trail-requires
+    returns-8)

@@ -1,17 +1,13 @@
 -- `agreement::same_slots` meets its promise. Assumes nothing.
-use mathlib.Core.Path.{_≡_, refl, sym, ap, _∙_}
+use mathlib.Core.Path.{_≡_, refl, ap}
 use mathlib.Core.List.{List}
 use Prim.Native.Nat.{ℕ, _-_, _≤_}
 use native.Mathlib.Omega.{arith}
 use lib.ListN.{length, getD, take}
-use lib.Seq.{take-all}
 use borrow.Author.Needs.{needs}
-use Rattle.agreement.proofs.Exactly.{always, never, longer}
+use Rattle.agreement.proofs.Exactly.{always, never, longer, whole}
 use Rattle.agreement.proofs.same_slots.Statement.{statement}
 use Rattle.agreement.proofs.same_slots.Tie as tie
-
-whole : (xs ys : List ℕ) → length xs ≡ 7 → length ys ≡ 7 → take 7 xs ≡ take 7 ys → xs ≡ ys
-whole xs ys l m e = sym (take-all 7 xs (omega arith)) ∙ e ∙ take-all 7 ys (omega arith)
 
 abbrev Inv-loop : tie.InvT-loop
 Inv-loop a b k₀ k = (k ≤ 7) × (length a ≡ 7) × (length b ≡ 7) × (take k a ≡ take k b)
@@ -52,7 +48,7 @@ returns-2 : tie.Need-returns-2 Inv-loop μ-loop
 returns-2 c =
     let here = c .before .loop in
     let seven : here .k ≡ 7 = omega arith in
-    always (whole _ _ (here .inv .1) (here .inv .2) (rw seven at (here .inv .3)))
+    always (whole 7 _ _ (here .inv .1) (here .inv .2) (rw seven at (here .inv .3)))
 
 pub same-slots-spec : {M : Type 1} → statement M
 same-slots-spec =

@@ -3,7 +3,7 @@ use mathlib.Core.Path.{refl}
 use native.Mathlib.Omega.{arith}
 use borrow.Author.Needs.{needs}
 use Rattle.texts.specs.Lines.{rest}
-use Rattle.print.proofs.Placing.{nothing, within, then}
+use Rattle.print.proofs.Placing.{nothing, within, then, placed-length}
 use Rattle.print.proofs.Resting.{entries-only}
 use Rattle.print.proofs.rest_lines.Statement.{statement}
 use Rattle.print.proofs.rest_lines.Tie as tie
@@ -35,8 +35,11 @@ returns-2 c =
     within (entries-only _ _ _ (at-wide .before .match .keys2) (c .match2 .keys2)) (omega arith)
     (rw (at-wide .wide .ensures) at (c .before .before .before .entry-lines .ensures))
 
-root-line-requires : tie.Need-root-line-requires
-root-line-requires c κs = search needs
+root-lines-requires : tie.Need-root-lines-requires
+root-lines-requires c κs =
+    let at-entries = c .before .before .before .before .before .before in
+    let after = placed-length (omega arith) (rw (at-entries .before .before .wide .ensures) at (at-entries .entry-lines .ensures)) in
+    omega (arith, after .0, after .1)
 
 same-length-2 : tie.Need-same-length-2
 same-length-2 c = search needs
@@ -44,10 +47,10 @@ same-length-2 c = search needs
 returns-3 : tie.Need-returns-3
 unfolding rest
 returns-3 c =
-    let at-entries = c .before .before .before .before .before .before .before .before .before .before in
+    let at-entries = c .before .before .before .before .before .before .before .before .before in
     let entries = rw (at-entries .before .before .wide .ensures) at (at-entries .entry-lines .ensures) in
-    rw (c .before .before .before .before .before .before .answer .given .1)
-    (within refl (omega arith) (then (omega arith) entries (c .before .before .root-line .ensures)))
+    rw (c .before .before .before .before .before .answer .given .1)
+    (within refl (omega arith) (then (omega arith) entries (c .before .before .root-lines .ensures)))
 
 pub rest-lines-spec : {M : Type 1} → statement M
 rest-lines-spec =
@@ -60,6 +63,6 @@ rest-lines-spec =
     enum-known-answer
     same-length
     returns-2
-    root-line-requires
+    root-lines-requires
     same-length-2
     returns-3)

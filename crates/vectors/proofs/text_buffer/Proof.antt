@@ -6,7 +6,7 @@ use Rattle.vectors.proofs.text_buffer.Statement.{statement}
 use Rattle.vectors.proofs.text_buffer.Tie as tie
 
 returns : tie.Need-returns
-returns c = sym (length-replicate {A = ℕ} 524544 0)
+returns c = sym (length-replicate {A = ℕ} 525184 0)
 
 pub text-buffer-spec : {M : Type 1} → statement M
 text-buffer-spec = tie.close (tie.spec returns)

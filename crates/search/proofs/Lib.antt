@@ -1,0 +1,2 @@
+-- One reading.
+pub mod OneReading
