@@ -1,5 +1,5 @@
-//! The time of the check alone and of a whole answer: on the longest table and on those of the files that are named, and of an answer
-//! on the bench's own tables too. With an earlier archive of the library, which KUSILLAQE_BEFORE names when this is built, it is
+//! The time of the check alone and of a whole answer: on the longest table, on those over real grammars and on those of the files that are
+//! named, and of an answer on the bench's other tables too. With an earlier archive of the library, which KUSILLAQE_BEFORE names when this is built, it is
 //! measured beside the present one, by turns.
 
 use crate::{rate, LIMIT, ROOM};
@@ -23,7 +23,8 @@ struct Slices {
 type Call = fn(&[u8], &mut Slices);
 
 pub fn checks(seconds: f64, files: &[String]) {
-    measure("check", seconds, tables(files), check, before::check);
+    let all = crate::real().into_iter().chain(tables(files)).collect();
+    measure("check", seconds, all, check, before::check);
 }
 
 pub fn answers(seconds: f64, files: &[String]) {
@@ -32,11 +33,8 @@ pub fn answers(seconds: f64, files: &[String]) {
 }
 
 fn tables(files: &[String]) -> Vec<(String, Vec<u8>)> {
-    let read = |file: &String| {
-        let table = std::fs::read(file).unwrap_or_else(|error| panic!("{file}: {error}"));
-        (file.rsplit('/').next().unwrap_or(file).to_string(), table)
-    };
     let longest = ("the longest".to_string(), write(&known::full()));
+    let read = |file: &String| crate::named(file.into());
     std::iter::once(longest).chain(files.iter().map(read)).collect()
 }
 

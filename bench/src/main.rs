@@ -8,6 +8,7 @@ mod fast;
 
 use kusillaqe::{Answer, Entries, Node, Report};
 use second::{known, make, write, Grammar};
+use std::path::PathBuf;
 use std::time::Instant;
 
 const LIMIT: u32 = 1_000_000;
@@ -62,7 +63,27 @@ fn tables() -> Vec<(String, Vec<u8>)> {
     ] {
         tables.push((name.into(), busiest(seed, make)));
     }
+    tables.extend(real());
     tables
+}
+
+/// The tables over real grammars, by name.
+fn real() -> Vec<(String, Vec<u8>)> {
+    let folder = concat!(env!("CARGO_MANIFEST_DIR"), "/../samples/real");
+    let entries = std::fs::read_dir(folder).unwrap_or_else(|error| panic!("{folder}: {error}"));
+    let paths = entries.map(|entry| entry.expect("it can be read").path());
+    let mut tables: Vec<_> = paths
+        .filter(|path| path.extension().is_some_and(|end| end == "table"))
+        .map(named)
+        .collect();
+    tables.sort();
+    tables
+}
+
+fn named(path: PathBuf) -> (String, Vec<u8>) {
+    let table = std::fs::read(&path).unwrap_or_else(|error| panic!("{}: {error}", path.display()));
+    let name = path.file_stem().expect("it has a name").to_string_lossy().into_owned();
+    (name, table)
 }
 
 /// Of some made tables, the one that makes the most closures.
