@@ -36,6 +36,10 @@ closedOver rows gs = closure (take (attributes * suc (length gs)) (placedFrom at
 abbrev pub graphsOf : List ℕ → Task → List ℕ → List ℕ
 graphsOf graphs k picked = map (λ i. getD graphs i 0) (take (k .count) picked)
 
+-- each picked entry has its graph
+abbrev pub PickedIn : List ℕ → Task → List ℕ → Type 0
+PickedIn graphs k picked = (k .count ≤ 7) × ((i : ℕ) → i < k .count → getD picked i 0 < length graphs)
+
 -- the symbol with the graph is among the first n entries
 abbrev pub seenIn : List ℕ → List ℕ → ℕ → ℕ → ℕ → Bool
 seenIn symbols graphs y g n = someBelow (λ i. both (eqb (getD symbols i 0) y) (eqb (getD graphs i 0) g)) n

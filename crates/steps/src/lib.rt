@@ -5,11 +5,12 @@ ghost use Prim.Native.Nat.{_+_, _≤_};
 ghost use lib.ListN.{length, take, drop};
 ghost use lib.Seq.{sets};
 ghost use Rattle.grammar.specs.Table.{attributes};
-ghost use Rattle.graph.specs.Rows.{hasCircle, rootGraph};
+ghost use Rattle.graph.specs.Rows.{placedFrom, hasCircle, rootGraph};
 ghost use Rattle.steps.specs.Slices.{roomFor, entryIn, atEntry, atExit};
 ghost use Rattle.steps.specs.Step.{
   goesOn,
   stops,
+  PickedIn,
   closedOver,
   seenIn,
   graphsOf,
@@ -117,15 +118,28 @@ pub fn entry_of(
     }
 }
 
-// One closure, of the compound graph: to the production's own rows, the pairs of each picked entry.
+// The rows of the compound graph: to the production's own, each picked entry's pairs at its occurrence. Occurrence 0 is the left symbol.
+fn compound(graphs: &[u64], rows: &mut [u64; NODES], task: Task, picked: [u16; SLOTS])
+    requires { ⌜ PickedIn (now graphs) task picked ⌝ }
+    ensures { λ _. ⌜ now (rows .exit) ≡ placedFrom attributes 1 (graphsOf (now (graphs .entry)) task picked) (now (rows .entry)) ⌝ }
+{
+    let count = task.count;
+    for k in 0..count {
+        let kid = numbers::wide(picked[k]);
+        let pairs = graphs[kid];
+        closures::place(rows, pairs, k + 1);
+    }
+}
+
+// One closure.
 fn closure(graphs: &[u64], own: &[u64; NODES], task: Task, picked: [u16; SLOTS]) -> Closed
-    requires { ⌜ task .count ≤ 7 ⌝ }
+    requires { ⌜ PickedIn (now graphs) task picked ⌝ }
     ensures { λ r. ⌜ (r .circle ≡ hasCircle (closedOver (now (own .entry)) (graphsOf (now (graphs .entry)) task picked)))
         × (r .graph ≡ rootGraph attributes (closedOver (now (own .entry)) (graphsOf (now (graphs .entry)) task picked))) ⌝ }
 {
     let occurrences = task.count + 1;
     let mut rows = *own;
-    closures::place_all(&mut rows, graphs, picked, task.count);
+    compound(graphs, &mut rows, task, picked);
     closures::close(&mut rows, occurrences);
     Closed {
         circle: closures::has_circle(&rows, occurrences),
@@ -159,7 +173,7 @@ fn judge(
     picked: [u16; SLOTS],
     run: Run,
 ) -> Verdict
-    requires { ⌜ (run .stored ≤ length (now symbols)) × (run .stored ≤ length (now graphs)) × (task .count ≤ 7) ⌝ }
+    requires { ⌜ (run .stored ≤ length (now symbols)) × (run .stored ≤ length (now graphs)) × PickedIn (now graphs) task picked ⌝ }
     ensures { λ r. ⌜ r ≡ judged task (now (own .entry)) (now (symbols .entry)) (now (graphs .entry)) run picked ⌝ }
 {
     if run.left == 0 {

@@ -35,8 +35,8 @@ module _ (k : Task) (rows graphs picked : List ℕ) (few : k .count ≤ length p
 add-occurrences : tie.Need-add-occurrences
 add-occurrences c = search needs
 
-place-all-requires : tie.Need-place-all-requires
-place-all-requires c κs = search needs
+compound-requires : tie.Need-compound-requires
+compound-requires c κs = search needs
 
 close-requires : tie.Need-close-requires
 close-requires c κs = search needs
@@ -49,14 +49,14 @@ root-graph-requires c κs = search needs
 
 returns : tie.Need-returns
 returns c =
-    let table = c .before .before .before .before .before .before .place-all in
+    let table = c .before .before .before .before .before .before .compound in
     let s = c .before .before .before .before .before .before .before .before .before .before .before in
     let closed = c .before .before .before .before .close in
-    let few : s .args .task .count ≤ length (s .args .picked) = omega (arith, s .pre) in (
+    let few : s .args .task .count ≤ length (s .args .picked) = omega (arith, s .pre .0) in (
       c .before .before .has-circle .ensures
-          ∙ closed-circle (s .args .task) (s .args .own .now) (s .args .graphs .now) (s .args .picked) few (table .last .0) (closed .last .0) (table .ensures) (closed .ensures),
+          ∙ closed-circle (s .args .task) (s .args .own .now) (s .args .graphs .now) (s .args .picked) few (table .last .1 .0) (closed .last .0) (table .ensures) (closed .ensures),
       c .root-graph .ensures
-          ∙ closed-root (s .args .task) (s .args .own .now) (s .args .graphs .now) (s .args .picked) few (table .last .0) (closed .last .0) (table .ensures) (closed .ensures),
+          ∙ closed-root (s .args .task) (s .args .own .now) (s .args .graphs .now) (s .args .picked) few (table .last .1 .0) (closed .last .0) (table .ensures) (closed .ensures),
     )
 
 pub closure-spec : {M : Type 1} → statement M
@@ -64,7 +64,7 @@ closure-spec =
     tie.close
     (tie.spec
     add-occurrences
-    place-all-requires
+    compound-requires
     close-requires
     has-circle-requires
     root-graph-requires

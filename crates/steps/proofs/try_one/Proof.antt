@@ -73,7 +73,7 @@ judge-requires c κs =
     let f = holds e in (
       omega (arith, f .within, f .held),
       omega (arith, f .within, f .held),
-      f .few,
+      (f .few, λ i l. omega (arith, f .below i l, f .within, f .held)),
     )
 
 enum-told : tie.Need-enum-told
