@@ -1,2 +1,3 @@
--- One reading.
+-- The pairs of picked entries, and one reading.
+pub mod Placing
 pub mod OneReading

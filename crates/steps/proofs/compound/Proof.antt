@@ -1,39 +1,14 @@
 -- `steps::compound` meets its contract. The invariant: the pairs that are left make of the rows now what all make of them at the start.
 -- Assumes nothing.
 use mathlib.Core.Path.{_≡_, refl, sym, ap, _∙_}
-use mathlib.Core.List.{List, map}
-use Prim.Native.Nat.{ℕ, suc, _≤_, _<_, _+_, _-_}
-use native.Mathlib.Numerals.{add-one}
+use Prim.Native.Nat.{ℕ, suc, _≤_, _+_, _-_}
 use borrow.Author.Needs.{needs}
 use native.Mathlib.Omega.{arith}
-use lib.ListN.{length, getD, take, drop, length-map, length-take, drop-of-length-le}
-use lib.Seq.{drop-cons, getD-take}
+use lib.ListN.{length, getD, drop}
 use Rattle.graph.specs.Rows.{placed, placedFrom}
-use Rattle.numbers.proofs.Members.{at-map}
+use Rattle.closures.proofs.Placing.{picks, length-picks, pick-at, one-placed, none-left}
 use Rattle.steps.proofs.compound.Statement.{statement}
 use Rattle.steps.proofs.compound.Tie as tie
-
--- the graphs of the first `count` picked entries
-abbrev picks : List ℕ → ℕ → List ℕ → List ℕ
-picks graphs count picked = map (λ i. getD graphs i 0) (take count picked)
-
-length-picks : (graphs : List ℕ) (count : ℕ) (picked : List ℕ) → count ≤ length picked → length (picks graphs count picked) ≡ count
-length-picks graphs count picked h = length-map (take count picked) (λ i. getD graphs i 0) ∙ omega (arith, length-take count picked)
-
-pick-at : (graphs : List ℕ) (count : ℕ) (picked : List ℕ) (k : ℕ) → count ≤ length picked → k < count
-    → getD (picks graphs count picked) k 0 ≡ getD graphs (getD picked k 0) 0
-pick-at graphs count picked k h l =
-    at-map (λ i. getD graphs i 0) 0 0 (take count picked) k (omega (arith, length-take count picked))
-    ∙ ap (λ (i : ℕ). getD graphs i 0) (getD-take count picked k 0 l)
-
-one-placed : (gs rows : List ℕ) (k : ℕ) → k < length gs
-    → placedFrom 8 (suc (k + 1)) (drop (k + 1) gs) (placed 8 (k + 1) (getD gs k 0) rows) ≡ placedFrom 8 (suc k) (drop k gs) rows
-unfolding placedFrom
-one-placed gs rows k h = rw (add-one k, drop-cons gs k 0 h)
-
-none-left : (gs rows : List ℕ) (k : ℕ) → length gs ≤ k → rows ≡ placedFrom 8 (suc k) (drop k gs) rows
-unfolding placedFrom
-none-left gs rows k h = rw (drop-of-length-le gs {i = k} h)
 
 abbrev Inv-loop : tie.InvT-loop
 Inv-loop graphs rows₀ picked count k₀ rows k =
