@@ -5,7 +5,7 @@ use Prim.Native.Nat.{ℕ, _≤_, _<_}
 use native.Mathlib.Decide.{decLt}
 use native.Mathlib.Omega.{arith}
 use lib.ListN.{length, getD, take, drop, length-map, length-take, List·getD-eq-default}
-use lib.Seq.{take-at, length-take-le}
+use lib.Seq.{take-at}
 use types.Run.{OneOf, miss}
 use denote.Enum.Declared.{tagOf}
 use Rattle.numbers.specs.Lists.{written}
@@ -24,10 +24,10 @@ use Rattle.rules.specs.declared.Answer.the-variants.{Noncircular, Circular, Ref
 use Rattle.rules.specs.declared.Entry.{Entry}
 use Rattle.rules.specs.declared.Report.{Report}
 use Rattle.rules.specs.Passes.{Outcome, noEntry, entry, graphs, counting}
-use Rattle.rules.specs.Test.{circleSaid, saying}
+use Rattle.rules.specs.Test.{reportWith, circleSaid, saying}
 use Rattle.rules.proofs.Answer.{the-type}
 use Rattle.passes.specs.Slices.{Slices, Tells}
-use Rattle.passes.specs.Follow.{circleOver, circled}
+use Rattle.passes.specs.Follow.{circleOver}
 
 -- where the answer is not circular
 pub none-said : (bs gs root : List ℕ) (a : Answer) → OneOf (0 ∷ 2 ∷ 3 ∷ 4 ∷ []) (tagOf the-type a) → noTrail ≡ circleOver bs gs root a
@@ -74,14 +74,14 @@ front es after before n e l =
 
 -- the report with its circle tells what the passes give, and the circle
 pub saying-told : (bs : List ℕ) (o : Outcome) (σ : Slices) (r : Report) (τ : Slices) → o .report .entries ≡ length (o .entries) → Tells o σ r τ
-    → {c : Report} → c ≡ circled (circleOver bs (take (r .entries) (τ .graphs)) (r .root) (r .answer)) r
+    → {c : Report} → c ≡ reportWith (circleOver bs (take (r .entries) (τ .graphs)) (r .root) (r .answer)) r
     → Tells (saying (widthOf bs) (grammarOf bs) o) σ c τ
 saying-told bs o σ r τ counted told {c} e =
     record {
       report =
           e
-          ∙ ap (λ (x : Report). circled (circleOver bs (take (x .entries) (τ .graphs)) (x .root) (x .answer)) x) (told .report)
-          ∙ ap (λ t. circled t (o .report))
+          ∙ ap (λ (x : Report). reportWith (circleOver bs (take (x .entries) (τ .graphs)) (x .root) (x .answer)) x) (told .report)
+          ∙ ap (λ t. reportWith t (o .report))
           (over-said bs (o .entries) (take (o .report .entries) (τ .graphs))
           (front (o .entries) (τ .graphs) (σ .graphs) (o .report .entries) (told .graphs) counted) (o .report .root) (o .report .answer));
       symbols = told .symbols;

@@ -13,13 +13,10 @@ use Rattle.grammar.specs.Table.{attributes, grammarOf}
 use Rattle.graph.specs.declared.Trail.{Trail}
 use Rattle.graph.specs.Rows.{own, compound, hasCircle, rootGraph}
 use Rattle.graph.specs.Parts.{mostNodes}
-use Rattle.graph.specs.Search.{circleOf}
-use Rattle.graph.specs.Marks.{masksOf}
-use Rattle.graph.specs.Trails.{noTrail, circleTrail}
+use Rattle.graph.specs.Trails.{noTrail}
 use Rattle.parts.specs.Sets.{Symbols}
 use Rattle.parts.specs.Rule.{takesPart}
 use Rattle.rules.specs.declared.Answer.{Answer}
-use Rattle.rules.specs.declared.Answer.the-variants.{Noncircular, Circular, Refused, OutOfSteps, OutOfRoom}
 use Rattle.rules.specs.declared.Entry.{Entry}
 use Rattle.rules.specs.declared.Report.{Report}
 use Rattle.steps.specs.declared.Course.{Course}
@@ -28,6 +25,7 @@ use Rattle.steps.specs.declared.Run.{Run}
 use Rattle.steps.specs.declared.Task.{Task}
 use Rattle.steps.specs.Step.{closedOver}
 use Rattle.rules.specs.Passes.{System, State, Ran, going, stopped, andThen, seven, counting, candidates, combinations}
+use Rattle.rules.specs.Test.{ofRoot, circleIn}
 use Rattle.passes.specs.Slices.{Slices, entriesTo}
 
 -- ---- the slices and a run, in the words of the rules
@@ -84,25 +82,10 @@ pub record Roomy (room : ℕ) (σ : Slices) (r : Run) : Type 0 where
 
 -- where the answer is circular, the circle of the root, whose entries have these graphs
 abbrev pub circleOver : List ℕ → List ℕ → List ℕ → Answer → Trail
-circleOver bs gs root (Circular p) =
+circleOver bs gs root =
     let g = grammarOf bs in
-    circleTrail attributes (masksOf g (production g p))
-    (circleOf (compound attributes (edgesOf g p) (map (λ i. getD gs i 0) (counting (rights (production g p)) root))))
-circleOver bs gs root Noncircular = noTrail
-circleOver bs gs root (Refused b) = noTrail
-circleOver bs gs root OutOfSteps = noTrail
-circleOver bs gs root OutOfRoom = noTrail
-
-abbrev pub circled : Trail → Report → Report
-circled circle r =
-    record {
-      answer = r .answer;
-      closures = r .closures;
-      entries = r .entries;
-      passes = r .passes;
-      root = r .root;
-      circle = circle;
-    }
+    ofRoot (λ p.
+    circleIn attributes g p (compound attributes (edgesOf g p) (map (λ i. getD gs i 0) (counting (rights (production g p)) root))))
 
 -- ---- one production's turn
 

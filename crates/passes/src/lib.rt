@@ -9,9 +9,9 @@ ghost use Rattle.grammar.specs.Grammar.{production};
 ghost use Rattle.grammar.specs.Table.{P, grammarOf};
 ghost use Rattle.grammar.specs.Refusal.{refusal};
 ghost use Rattle.rules.specs.Passes as stated;
-ghost use Rattle.rules.specs.Test.{systemIn};
+ghost use Rattle.rules.specs.Test.{systemIn, reportWith};
 ghost use Rattle.passes.specs.Slices.{lent, atEntry, atExit, roomOf, Tells, Tested, entriesTo};
-ghost use Rattle.passes.specs.Follow.{reportOf, Follows, Roomy, InTurn, Picked, systemBy, taskOf, ownOf, combosFrom, occursIn, allIn, partsAmong, circleOver, circled};
+ghost use Rattle.passes.specs.Follow.{reportOf, Follows, Roomy, InTurn, Picked, systemBy, taskOf, ownOf, combosFrom, occursIn, allIn, partsAmong, circleOver};
 use grammar::Checked;
 use grammar::NODES;
 use grammar::Production;
@@ -308,7 +308,7 @@ fn circle_said(table: &[u8], graphs: &[u64], root: [u16; SLOTS], answer: Answer)
 // The report with the circle. Only the graphs of stored entries are read.
 fn with_circle(table: &[u8], graphs: &[u64], report: Report) -> Report
     requires { ⌜ (refusal (now table) ≡ Good) × (report .entries ≤ length (now graphs)) ⌝ }
-    ensures { λ r. ⌜ r ≡ circled
+    ensures { λ r. ⌜ r ≡ reportWith
         (circleOver (now (table .entry)) (take (report .entries) (now (graphs .entry))) (report .root) (report .answer)) report ⌝ }
 {
     let stored = numbers::wide(report.entries);

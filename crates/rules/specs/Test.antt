@@ -14,6 +14,7 @@ use Rattle.graph.specs.Marks.{masksOf}
 use Rattle.graph.specs.Trails.{noTrail, circleTrail}
 use Rattle.rules.specs.declared.Answer.{Answer}
 use Rattle.rules.specs.declared.Answer.the-variants.{Noncircular, Circular, Refused, OutOfSteps, OutOfRoom}
+use Rattle.rules.specs.declared.Report.{Report}
 use Rattle.rules.specs.declared.Entry.{Entry}
 use Rattle.rules.specs.Passes.{System, Outcome, outcome, counting, graphs, noRoot, empty, passes}
 
@@ -38,30 +39,32 @@ systemIn bs = systemOf (widthOf bs) (grammarOf bs)
 abbrev pub rootRows : ℕ → Grammar → List Entry → ℕ → List ℕ → List ℕ
 rootRows w g es p root = compound w (edgesOf g p) (graphs es (counting (rights (production g p)) root))
 
--- where the answer is circular, the circle of the root's compound graph
+-- where the answer is circular, what is said of its production
+abbrev pub ofRoot : (ℕ → Trail) → Answer → Trail
+ofRoot circle (Circular p) = circle p
+ofRoot circle Noncircular = noTrail
+ofRoot circle (Refused b) = noTrail
+ofRoot circle OutOfSteps = noTrail
+ofRoot circle OutOfRoom = noTrail
+
+-- the circle in the rows of a production's compound graph
+abbrev pub circleIn : ℕ → Grammar → ℕ → List ℕ → Trail
+circleIn w g p rows = circleTrail w (masksOf g (production g p)) (circleOf rows)
+
+-- that of the root's compound graph
 abbrev pub circleSaid : ℕ → Grammar → List Entry → List ℕ → Answer → Trail
-circleSaid w g es root (Circular p) = circleTrail w (masksOf g (production g p)) (circleOf (rootRows w g es p root))
-circleSaid w g es root Noncircular = noTrail
-circleSaid w g es root (Refused b) = noTrail
-circleSaid w g es root OutOfSteps = noTrail
-circleSaid w g es root OutOfRoom = noTrail
+circleSaid w g es root = ofRoot (λ p. circleIn w g p (rootRows w g es p root))
+
+-- a report with another circle
+abbrev pub reportWith : Trail → Report → Report
+reportWith t r =
+    record { answer = r .answer; closures = r .closures; entries = r .entries; passes = r .passes; root = r .root; circle = t }
 
 -- what the passes give, and the circle
 abbrev pub saying : ℕ → Grammar → Outcome → Outcome
 saying w g o =
     let r = o .report in
-    record {
-      report =
-          record {
-            answer = r .answer;
-            closures = r .closures;
-            entries = r .entries;
-            passes = r .passes;
-            root = r .root;
-            circle = circleSaid w g (o .entries) (r .root) (r .answer);
-          };
-      entries = o .entries;
-    }
+    record { report = reportWith (circleSaid w g (o .entries) (r .root) (r .answer)) r; entries = o .entries }
 
 -- a bad table is refused: nothing is counted and nothing is stored
 unfoldable pub afterCheck : Checked → Outcome → Outcome

@@ -19,7 +19,7 @@ use Rattle.trees.specs.Tree.{Tree, Instance, valueAt}
 use Rattle.trees.specs.Evaluator.{Computed, Reached}
 use Rattle.rules.specs.declared.Answer.the-variants.{Circular}
 use Rattle.rules.specs.Passes.{Outcome, graphs}
-use Rattle.rules.specs.Test.{rootRows}
+use Rattle.rules.specs.Test.{rootRows, reportWith}
 use Rattle.verdict.specs.Demands.{Version, back, said, OnCircle, rootKids, shownTree, ValueOf}
 
 -- ---- what a caller reads: as many places as there are links
@@ -90,11 +90,7 @@ NeverBothAlways v = (bs : List ℕ) (limit room p : ℕ) → said (v bs limit ro
 -- the outcome with the circle t in its report
 abbrev pub withCircle : Trail → Outcome → Outcome
 withCircle t o =
-    let r = o .report in
-    record {
-      report = record { answer = r .answer; closures = r .closures; entries = r .entries; passes = r .passes; root = r .root; circle = t };
-      entries = o .entries;
-    }
+    record { report = reportWith t (o .report); entries = o .entries }
 
 -- no other circle could be said of what comes back
 abbrev pub OnlyCircle : Type 0

@@ -5,7 +5,8 @@ use native.Mathlib.Omega.{arith}
 use borrow.Author.Needs.{needs}
 use lib.ListN.{length, take}
 use lib.Seq.{length-take-le}
-use Rattle.passes.specs.Follow.{circleOver, circled}
+use Rattle.rules.specs.Test.{reportWith}
+use Rattle.passes.specs.Follow.{circleOver}
 use Rattle.passes.proofs.with_circle.Statement.{statement}
 use Rattle.passes.proofs.with_circle.Tie as tie
 
@@ -25,7 +26,7 @@ returns : tie.Need-returns
 returns c =
     let s = c .before .before .before .before .before .before in
     let r = s .args .report in
-    ap (λ t. circled t r)
+    ap (λ t. reportWith t r)
     (c .circle-said .ensures
     ∙ ap (λ (n : ℕ). circleOver (s .args .table .now) (take n (s .args .graphs .now)) (r .root) (r .answer)) (c .before .before .before .wide .ensures))
 
