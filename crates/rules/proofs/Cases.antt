@@ -4,7 +4,7 @@ use mathlib.Core.Bool.{Bool, true, false, cond}
 use mathlib.Core.List.{List, [], _∷_}
 use Prim.Native.Nat.{ℕ}
 use lib.Dec.{eqb}
-use lib.ListN.{replicate}
+use lib.ListN.{set, replicate}
 use borrow.Author.Tests.{eqb-true}
 use Rattle.grammar.specs.declared.Broken.the-variants.{Rule}
 use Rattle.rules.specs.declared.Answer.{Answer}
@@ -123,3 +123,8 @@ pub skips :
     ((Noncircular, 2, 1, 2) ∷ (Noncircular, 2, 1, 2) ∷ (Noncircular, 0, 0, 1) ∷ (Noncircular, 0, 0, 1) ∷ [])
 unfolding opened tableSpare tableEndless tableBarren
 skips = refl
+
+-- a circle in a production's own edges is found with its first combination and not before: 0 → 1 with 1.0 → 1.0, 1 → nothing, 0 → nothing
+pub not-before : line (set (set tableEndless 48 0) 50 0) 100 10 ≡ (Circular 0, 3, 2, 2)
+unfolding opened tableEndless
+not-before = refl
