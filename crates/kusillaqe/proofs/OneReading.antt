@@ -4,9 +4,9 @@ use mathlib.Core.Path.{sym, ap, _∙_}
 use Prim.Native.Nat.{ℕ}
 use denote.Ref.{now}
 use Rattle.numbers.proofs.Reading.{OneOutcome, OneResult}
+use Rattle.flats.specs.Flat.{flat}
 use Rattle.passes.specs.Slices.{Slices, slices}
 use Rattle.passes.proofs.OneReading.{Back, told-once}
-use Rattle.kusillaqe.specs.Flat.{flat}
 use Rattle.kusillaqe.proofs.kusillaqe_check.Kinds as check-kinds
 use Rattle.kusillaqe.proofs.kusillaqe_check.Reads as check-reads
 use Rattle.kusillaqe.proofs.kusillaqe_test.Kinds as test-kinds

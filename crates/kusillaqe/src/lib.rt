@@ -1,53 +1,19 @@
 // The library for Rust and C: numbers, and slices and arrays of numbers.
 ghost use mathlib.Core.Path.{_≡_};
 ghost use Prim.Native.Nat.{_*_};
-ghost use lib.ListN.{length, take, replicate};
+ghost use lib.ListN.{take, replicate};
 ghost use Rattle.grammar.specs.Table.{attributes, edgesIn};
 ghost use Rattle.grammar.specs.Refusal.{refusal};
 ghost use Rattle.graph.specs.Rows.{own, placed, hasCircle, rootGraph};
 ghost use Rattle.graph.specs.Parts.{closedFirst};
 ghost use Rattle.graph.specs.Search.{pathOf, circleOf};
 ghost use Rattle.graph.specs.Trails.{trailOf, circleTrail};
-ghost use Rattle.rules.specs.Passes.{numberOf, valueOf};
 ghost use Rattle.passes.specs.Slices.{atEntry, atExit};
-ghost use Rattle.kusillaqe.specs.Flat.{flatCheck, trailNumbers, flatTrail, flat, TestedFlat};
-use grammar::Broken;
-use grammar::Checked;
-use grammar::NODES;
+ghost use Rattle.flats.specs.Flat.{flatCheck, flatTrail};
+ghost use Rattle.kusillaqe.specs.Flat.{TestedFlat};
+use flats::REPORT;
+use flats::TRAIL;
 use grammar::OCCURRENCES;
-use graph::Trail;
-use rules::Answer;
-use rules::Report;
-
-// Stands where there is no production and no record.
-const NONE: u32 = 4294967295;
-
-// How many numbers tell a path or a circle.
-const TRAIL: usize = 1 + 2 * NODES;
-
-// How many of a report's numbers stand before its circle.
-const FIRST: usize = 12;
-
-// How many numbers tell a report.
-const REPORT: usize = FIRST + TRAIL;
-
-fn wide(x: u16) -> u32
-    ensures { λ r. ⌜ r ≡ x ⌝ }
-{
-    x as u32
-}
-
-fn flat_check(checked: Checked) -> [u32; 2]
-    ensures { λ r. ⌜ r ≡ flatCheck checked ⌝ }
-{
-    match checked {
-        Checked::Good => [0, NONE],
-        Checked::Refused(broken) => match broken {
-            Broken::Rule(k) => [k as u32, NONE],
-            Broken::Record(k, i) => [k as u32, wide(i)],
-        },
-    }
-}
 
 // The check of a table: the number of the rule that it breaks, 0 where it breaks none, and the first bad record.
 #[no_mangle]
@@ -55,81 +21,7 @@ pub extern "C" fn kusillaqe_check(table: &[u8], broken: &mut [u32; 2])
     ensures { λ _. ⌜ now (broken .exit) ≡ flatCheck (refusal (now (table .entry))) ⌝ }
 {
     let checked = checks::check(table);
-    let out = flat_check(checked);
-    *broken = out;
-}
-
-fn number_of(answer: Answer) -> u32
-    ensures { λ r. ⌜ r ≡ numberOf answer ⌝ }
-{
-    match answer {
-        Answer::Noncircular => 0,
-        Answer::Circular(_) => 255,
-        Answer::Refused(broken) => match broken {
-            Broken::Rule(k) => k as u32,
-            Broken::Record(k, _) => k as u32,
-        },
-        Answer::OutOfSteps => 8,
-        Answer::OutOfRoom => 9,
-    }
-}
-
-fn value_of(answer: Answer) -> u32
-    ensures { λ r. ⌜ r ≡ valueOf answer ⌝ }
-{
-    match answer {
-        Answer::Noncircular => NONE,
-        Answer::Circular(p) => wide(p),
-        Answer::Refused(broken) => match broken {
-            Broken::Rule(_) => NONE,
-            Broken::Record(_, i) => wide(i),
-        },
-        Answer::OutOfSteps => NONE,
-        Answer::OutOfRoom => NONE,
-    }
-}
-
-// Of an element of an array only a function knows that it has 8 bits.
-fn number(x: u8) -> u32
-    ensures { λ r. ⌜ r ≡ x ⌝ }
-{
-    x as u32
-}
-
-fn flat_trail(trail: Trail, out: &mut [u32])
-    requires { ⌜ length (now out) ≡ trailNumbers ⌝ }
-    ensures { λ _. ⌜ now (out .exit) ≡ flatTrail trail ⌝ }
-{
-    let nodes = trail.nodes;
-    let marks = trail.marks;
-    out[0] = number(trail.len);
-    for i in 0..NODES {
-        out[1 + i] = number(nodes[i]);
-        out[1 + NODES + i] = number(marks[i]);
-    }
-}
-
-fn flat_of(r: Report) -> [u32; REPORT]
-    ensures { λ out. ⌜ out ≡ flat r ⌝ }
-{
-    let answer = r.answer;
-    let kids = r.root;
-    let circle = r.circle;
-    let mut out = [0u32; REPORT];
-    out[0] = number_of(answer);
-    out[1] = value_of(answer);
-    out[2] = r.closures;
-    out[3] = wide(r.entries);
-    out[4] = wide(r.passes);
-    out[5] = wide(kids[0]);
-    out[6] = wide(kids[1]);
-    out[7] = wide(kids[2]);
-    out[8] = wide(kids[3]);
-    out[9] = wide(kids[4]);
-    out[10] = wide(kids[5]);
-    out[11] = wide(kids[6]);
-    flat_trail(circle, &mut out[FIRST..]);
-    out
+    flats::flat_check(checked, broken);
 }
 
 // The circularity test over four lent slices; the report is left in numbers, its circle after the first twelve.
@@ -149,8 +41,7 @@ pub extern "C" fn kusillaqe_test(
         (atExit symbols graphs productions kids) ⌝ }
 {
     let r = passes::test(table, limit, symbols, graphs, productions, kids);
-    let out = flat_of(r);
-    *report = out;
+    flats::flat_report(r, report);
 }
 
 // The rows of a run of edge records.
@@ -199,7 +90,7 @@ pub extern "C" fn kusillaqe_circle(
         (circleTrail attributes (now (masks .entry)) (circleOf (take (attributes * occurrences) (now (rows .entry))))) ⌝ }
 {
     let found = search::circle(rows, occurrences, *masks);
-    flat_trail(found, circle);
+    flats::flat_trail(found, circle);
 }
 
 // The shortest path of one or more links from one of these nodes to another, and of these the least.
@@ -216,7 +107,7 @@ pub extern "C" fn kusillaqe_path(
         (trailOf attributes (now (masks .entry)) (pathOf (take (attributes * occurrences) (now (rows .entry))) from to) to) ⌝ }
 {
     let found = search::path(rows, occurrences, *masks, from, to);
-    flat_trail(found, path);
+    flats::flat_trail(found, path);
 }
 
 // The pairs among the nodes of the left symbol.

@@ -34,7 +34,7 @@ use Rattle.passes.specs.Slices as slices
 use Rattle.passes.proofs.Following.{drop-later}
 use Rattle.rows.proofs.Writing.{length-written}
 use Rattle.records.specs.Records.{rowRoom, RowTested}
-use Rattle.kusillaqe.specs.Flat.{flat}
+use Rattle.flats.specs.Flat.{flat}
 use Rattle.orders.specs.Answers as runs
 use Rattle.orders.specs.Stored.{Slots}
 use Rattle.texts.specs.Lines.{kidsIn}

@@ -35,7 +35,7 @@ use Rattle.passes.proofs.test.Kinds as slices-kinds
 use Rattle.passes.proofs.test.Reads as slices-reads
 use Rattle.records.specs.Records.{rowRoom}
 use Rattle.records.proofs.test as row
-use Rattle.kusillaqe.specs.Flat.{flat}
+use Rattle.flats.specs.Flat.{flat}
 use Rattle.kusillaqe.proofs.kusillaqe_test.Kinds as export-kinds
 use Rattle.kusillaqe.proofs.kusillaqe_test.Reads as export-reads
 use Rattle.verdict.specs.Demands.{back}

@@ -1,6 +1,6 @@
 -- `kusillaqe::kusillaqe_circle` meets its contract. Assumes nothing.
 use mathlib.Core.Path.{ap, _∙_}
-use Rattle.kusillaqe.specs.Flat.{flatTrail}
+use Rattle.flats.specs.Flat.{flatTrail}
 use borrow.Author.Needs.{needs}
 use Rattle.kusillaqe.proofs.kusillaqe_circle.Statement.{statement}
 use Rattle.kusillaqe.proofs.kusillaqe_circle.Tie as tie

@@ -1,4 +1,4 @@
--- `kusillaqe::flat_trail` meets its contract. The invariant: the first i nodes and the first i marks stand in their places. Assumes nothing.
+-- `flats::trail_in` meets its contract. The invariant: the first i nodes and the first i marks stand in their places. Assumes nothing.
 use mathlib.Core.Path.{_≡_, refl, sym, ap, ap₂, _∙_}
 use mathlib.Core.List.{List, [], _∷_, _++_}
 use Prim.Native.Nat.{ℕ, suc, _+_, _-_, _≤_, _<_}
@@ -7,8 +7,8 @@ use native.Mathlib.Omega.{arith}
 use lib.ListN.{length, getD, take, drop, set, length-set, length-drop, take-append-drop}
 use lib.Seq.{take-suc, take-suc-set, take-all, take-set-le, getD-set-same, drop-set-lt, drop-set-add}
 use borrow.Author.Needs.{needs}
-use Rattle.kusillaqe.proofs.flat_trail.Statement.{statement}
-use Rattle.kusillaqe.proofs.flat_trail.Tie as tie
+use Rattle.flats.proofs.trail_in.Statement.{statement}
+use Rattle.flats.proofs.trail_in.Tie as tie
 
 -- two lists that begin alike, and one place more
 alike-more : (xs ys : List ℕ) (i v : ℕ) → take i xs ≡ take i ys → v ≡ getD ys i 0 → i < length xs → i < length ys
@@ -128,8 +128,8 @@ returns c =
     ∙ ap (λ (x : ℕ). x ∷ start .args .trail .nodes ++ start .args .trail .marks)
     (getD-set-same (start .args .out .now) 0 (at .before .number .result) 0 (omega arith) ∙ at .before .number .ensures)
 
-pub flat-trail-spec : {M : Type 1} → statement M
-flat-trail-spec =
+pub trail-in-spec : {M : Type 1} → statement M
+trail-in-spec =
     tie.close
     (tie.spec
     Inv-loop

@@ -1,0 +1,2 @@
+-- What Rust and C are given as numbers.
+pub mod Flat
