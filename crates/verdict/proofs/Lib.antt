@@ -16,7 +16,4 @@ pub mod Words
 pub mod Demands
 pub mod Circle
 pub mod OnlyCircle
-pub mod Program
-pub mod Ways
-pub mod Examples
-pub mod Wrong
+pub mod Together

@@ -17,10 +17,10 @@ use Rattle.passes.proofs.Entries.{entry-at}
 use Rattle.passes.proofs.Following.{drop-later}
 use Rattle.passes.proofs.Told.{length-kids, entries-told}
 use Rattle.rows.proofs.Writing.{length-written}
 use Rattle.verdict.specs.Demands.{back, RoomExactly}
-use Rattle.verdict.specs.Program.{Stands, RestBefore, LongAsBefore, Demanded, Program}
+use Rattle.ways.specs.Program.{Stands, RestBefore, LongAsBefore, Demanded, Program}
 use Rattle.verdict.proofs.Demands.{refused-exactly, entries-shown, circular-shown, noncircular-none, start-without-tree, limits-kept, steps-exactly, room-exactly, room-counts, never-still, stands-still, stands-still-above}
 use Rattle.verdict.proofs.Circle.{circle-said, never-both, circle-waits}
 
 -- ---- read off the slices
 

@@ -38,8 +38,8 @@ use Rattle.records.proofs.test as row
 use Rattle.flats.specs.Flat.{flat}
 use Rattle.kusillaqe.proofs.kusillaqe_test.Kinds as export-kinds
 use Rattle.kusillaqe.proofs.kusillaqe_test.Reads as export-reads
 use Rattle.verdict.specs.Demands.{back}
-use Rattle.verdict.specs.Program.{Demanded, Program}
+use Rattle.ways.specs.Program.{Demanded, Program}
 
 -- ---- over lent slices: `passes::test`, with its parameters table, limit, symbols, graphs, productions, kids
 

@@ -40,12 +40,12 @@ use Rattle.orders.specs.Stored.{Slots}
 use Rattle.texts.specs.Lines.{kidsIn}
 use Rattle.texts.specs.Telling.{OthersZero, RootZero, UnprintedZero}
 use Rattle.texts.proofs.Telling.{said-zero, printed-tells}
 use Rattle.verdict.specs.Demands.{back, answer}
-use Rattle.verdict.specs.Ways.{slicesGiven, slicesLeft, ProgramAlways, readRow, RowProgram, RowAlways, answerFrom, unflat, NumbersTell, exportGiven, exportLeft, numbersLeft, ExportAlways, TextTells, TouchedFalls, TouchedRowFalls}
+use Rattle.ways.specs.Ways.{slicesGiven, slicesLeft, ProgramAlways, readRow, RowProgram, RowAlways, answerFrom, unflat, NumbersTell, exportGiven, exportLeft, numbersLeft, ExportAlways, TextTells, TouchedFalls, TouchedRowFalls}
 use Rattle.verdict.proofs.Obeys.{obeys}
 use Rattle.verdict.proofs.Demands.{refused, either, sound}
 use Rattle.verdict.proofs.Circle.{circle-is, places-said}
-use Rattle.verdict.proofs.Program.{behind, demanded, carried}
+use Rattle.ways.proofs.Program.{behind, demanded, carried}
 
 -- ---- over lent slices
 

@@ -1,7 +1,6 @@
 -- Each wrong version falls to the demand that it fails, whatever else it does. Assumes nothing.
-use mathlib.Core.Path.{_≡_, refl, sym, ap, _∙_, subst}
+use mathlib.Core.Path.{_≡_, refl, ap, _∙_, subst}
 use mathlib.Core.List.{List}
-use mathlib.Core.Bool.{true≢false}
 use Prim.Native.Nat.{ℕ}
 use native.Mathlib.Omega.{arith}
 use lib.ListN.{length}
@@ -16,12 +15,13 @@ use Rattle.rules.specs.declared.Answer.the-variants.{Noncircular, Circular, Ref
 use Rattle.rules.specs.Passes.{Outcome, outcome, noRoot, empty}
 use Rattle.rules.specs.Opened.{opened}
 use Rattle.rules.specs.Small.{tableA, tableB, tableSpare, tableBarren}
 use Rattle.verdict.specs.Demands.{Version, back, said, shownTree, CircularShown, RefusedExactlyAlways, CircularShownAlways, NoncircularNone, NoncircularNoneAlways, NothingTriedAlways, StepsExactlyAlways, RoomExactlyAlways, RoomCountsAlways, Finishes, NeverStill, NeverStillAlways, PassesFollowed}
 use Rattle.verdict.specs.Circle.{CircleSaid, CircleSaidAlways, withCircle}
-use Rattle.verdict.specs.Wrong.{RefusesEvery, AlwaysOutOfSteps, AlwaysOutOfRoom, AlwaysNoncircular, AlwaysCircular, StoresNothing, BeginsOnePass, onePass, everyProduction, silent, closedCircle, circleOfB, SaysAnotherCircle, AlwaysCounts, constantly}
+use Rattle.trials.specs.Wrong.{RefusesEvery, AlwaysOutOfSteps, AlwaysOutOfRoom, AlwaysNoncircular, AlwaysCircular, StoresNothing, BeginsOnePass, onePass, everyProduction, silent, closedCircle, circleOfB, SaysAnotherCircle, AlwaysCounts, constantly}
 use Rattle.verdict.proofs.Demands.{circular-shown, some-circle}
 use Rattle.verdict.proofs.OnlyCircle.{only-circle}
-use Rattle.verdict.proofs.Examples.{unbroken-A, none-A, closures-A, entries-A, not-three, none-said-A, circular-B, still-B, trail-B, closures-B, entries-B, none-spare, no-tree-barren, unbroken-barren}
+use Rattle.verdict.proofs.Together.{none-finishes, each-asked, still-early, same-entries}
+use Rattle.trials.proofs.Examples.{unbroken-A, none-A, closures-A, entries-A, not-three, none-said-A, circular-B, still-B, trail-B, closures-B, entries-B, none-spare, no-tree-barren, unbroken-barren}
 
 -- ---- demand 1: only bad tables are refused, and A is not bad
 pub refuses-every : (v : Version) → RefusedExactlyAlways v → ¬ RefusesEvery v
@@ -65,20 +65,14 @@ pub some-B : ¬ NoncircularNone tableB
 some-B none = none (some-circle tableB 0 (back tableB 3 2) (circular-shown tableB 3 2 0 circular-B))
 
 pub none-finishes-B : (ev : Evaluator (grammarOf tableB) treeB) → ¬ Finishes tableB treeB ev
-none-finishes-B ev finishes =
-    let y = still-B .each ev .one-left in
-    true≢false (sym (finishes .computes (y .0) (y .1)) ∙ y .2)
+none-finishes-B = none-finishes still-B
 
--- the demand is of each evaluator: any one shows that it is not met
+-- the demand is of each evaluator, and of every state
 pub each-asked-B : (ev : Evaluator (grammarOf tableB) treeB) → ¬ NeverStill tableB treeB
-each-asked-B ev never = none-finishes-B ev (never .each ev)
+each-asked-B = each-asked still-B
 
--- it is of every state: where one stands still with a value left over, there is no way on
 pub still-early-B : ¬ NeverStill tableB treeB
-still-early-B never =
-    let stuck = still-B .each (still-B .some) in
-    let y = stuck .one-left in
-    stuck .stops (never .goes-on _ (y .0) (y .1) (y .2))
+still-early-B = still-early still-B
 
 pub always-noncircular : (v : Version) → NoncircularNoneAlways v → ¬ AlwaysNoncircular v
 always-noncircular v demand wrong = some-B (demand tableB 3 2 (wrong tableB 3 2))
@@ -126,8 +120,8 @@ passes-B = refl
 
 pub stores-nothing : (v : Version) → PassesFollowed v → (¬ StoresNothing tableA 10 3 v) × (¬ StoresNothing tableB 3 2 v)
 stores-nothing v demand = (
-  λ wrong. omega (arith, entries-A, ap (λ (o : Outcome). length (o .entries)) (demand tableA 10 3), ap length wrong),
-  λ wrong. omega (arith, entries-B, ap (λ (o : Outcome). length (o .entries)) (demand tableB 3 2), ap length wrong),
+  λ wrong. omega (arith, entries-A, ap length (same-entries v demand tableA 10 3), ap length wrong),
+  λ wrong. omega (arith, entries-B, ap length (same-entries v demand tableB 3 2), ap length wrong),
 )
 
 pub one-pass : (v : Version) → PassesFollowed v → (¬ BeginsOnePass tableA 10 3 v) × (¬ BeginsOnePass tableB 3 2 v)

@@ -1,0 +1,2 @@
+-- Wrong versions of the test, on which the demands are tried.
+pub mod Wrong

@@ -1,0 +1,1 @@
+// No code: what is tried stands in specs/ and proofs/.
