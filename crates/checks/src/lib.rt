@@ -70,7 +70,7 @@ fn check_edges(table: &[u8]) -> Checked
     };
     let mut i: u16 = 0;
     while i < count {
-        let read = reads::read_edge(table, i as usize, before);
+        let read = edges::read_edge(table, i as usize, before);
         let Read::Edge(e) = read else {
             return handed_up(read, i);
         };

@@ -9,8 +9,6 @@ use Rattle.reads.proofs.read_symbol.Kinds as read-symbol-kinds
 use Rattle.reads.proofs.read_symbol.Reads as read-symbol-reads
 use Rattle.reads.proofs.read_production.Kinds as read-production-kinds
 use Rattle.reads.proofs.read_production.Reads as read-production-reads
-use Rattle.reads.proofs.read_edge.Kinds as read-edge-kinds
-use Rattle.reads.proofs.read_edge.Reads as read-edge-reads
 
 pub one-reading-counts-ok : OneResult 1 counts-ok-kinds.ps counts-ok-kinds.r counts-ok-reads.Post
 one-reading-counts-ok κs a x y s t p q = p ∙ sym q
@@ -23,6 +21,3 @@ one-reading-read-symbol κs a x y s t p q = p ∙ sym q
 
 pub one-reading-read-production : OneResult 1 read-production-kinds.ps read-production-kinds.r read-production-reads.Post
 one-reading-read-production κs a x y s t p q = p ∙ sym q
-
-pub one-reading-read-edge : OneResult 1 read-edge-kinds.ps read-edge-kinds.r read-edge-reads.Post
-one-reading-read-edge κs a x y s t p q = p ∙ sym q

@@ -1,11 +1,11 @@
--- `reads::rights_of` meets its contract. Assumes nothing.
+-- `edges::rights_of` meets its contract. Assumes nothing.
 use mathlib.Core.Path.{ap, _∙_}
 use Prim.Native.Nat.{_+_, _*_}
 use Rattle.numbers.specs.Number.{le2}
 use Rattle.grammar.proofs.Lookups.{count-read}
 use borrow.Author.Needs.{needs}
-use Rattle.reads.proofs.rights_of.Statement.{statement}
-use Rattle.reads.proofs.rights_of.Tie as tie
+use Rattle.edges.proofs.rights_of.Statement.{statement}
+use Rattle.edges.proofs.rights_of.Tie as tie
 
 cast-two-at : tie.Need-cast-two-at
 cast-two-at c = search needs

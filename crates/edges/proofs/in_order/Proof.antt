@@ -1,9 +1,9 @@
--- `reads::in_order` meets its contract. Assumes nothing.
+-- `edges::in_order` meets its contract. Assumes nothing.
 use mathlib.Core.Path.{_∙_}
 use borrow.Author.Needs.{needs}
 use Rattle.grammar.proofs.Handing.{order-first, order-later}
-use Rattle.reads.proofs.in_order.Statement.{statement}
-use Rattle.reads.proofs.in_order.Tie as tie
+use Rattle.edges.proofs.in_order.Statement.{statement}
+use Rattle.edges.proofs.in_order.Tie as tie
 
 returns : tie.Need-returns
 returns c = order-first (c .before .args .i) (c .before .args .before) (c .before .args .e) (c .if1 .taken)

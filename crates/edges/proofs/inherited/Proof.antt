@@ -1,8 +1,8 @@
--- `reads::inherited` meets its contract. Assumes nothing.
+-- `edges::inherited` meets its contract. Assumes nothing.
 use borrow.Author.Needs.{needs}
 use Rattle.grammar.proofs.Occurrences.{bit-beyond}
-use Rattle.reads.proofs.inherited.Statement.{statement}
-use Rattle.reads.proofs.inherited.Tie as tie
+use Rattle.edges.proofs.inherited.Statement.{statement}
+use Rattle.edges.proofs.inherited.Tie as tie
 
 returns : tie.Need-returns
 returns c = bit-beyond (c .before .args .attribute) (c .before .args .s .mask) (search needs) (c .if1 .taken)

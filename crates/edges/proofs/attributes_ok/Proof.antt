@@ -1,8 +1,8 @@
--- `reads::attributes_ok` meets its contract. Assumes nothing.
+-- `edges::attributes_ok` meets its contract. Assumes nothing.
 use borrow.Author.Tests.{lt-ltb, le-ltb}
 use Rattle.numbers.specs.Lists.{both}
-use Rattle.reads.proofs.attributes_ok.Statement.{statement}
-use Rattle.reads.proofs.attributes_ok.Tie as tie
+use Rattle.edges.proofs.attributes_ok.Statement.{statement}
+use Rattle.edges.proofs.attributes_ok.Tie as tie
 
 returns : tie.Need-returns
 unfolding both

@@ -1,10 +1,10 @@
--- `reads::target_ok` meets its contract. Assumes nothing.
+-- `edges::target_ok` meets its contract. Assumes nothing.
 use mathlib.Core.Path.{ap, _∙_}
 use lib.Dec.{eqb}
 use Rattle.grammar.proofs.Occurrences.{allowed-left, allowed-right}
 use borrow.Author.Needs.{needs}
-use Rattle.reads.proofs.target_ok.Statement.{statement}
-use Rattle.reads.proofs.target_ok.Tie as tie
+use Rattle.edges.proofs.target_ok.Statement.{statement}
+use Rattle.edges.proofs.target_ok.Tie as tie
 
 inherited-requires : tie.Need-inherited-requires
 inherited-requires c κs = search needs

@@ -1,8 +1,8 @@
--- `reads::is_below` meets its contract. Assumes nothing.
+-- `edges::is_below` meets its contract. Assumes nothing.
 use mathlib.Core.Path.{sym, _∙_}
 use Rattle.numbers.proofs.Ordered.{below-differ, below-same, below-last}
-use Rattle.reads.proofs.is_below.Statement.{statement}
-use Rattle.reads.proofs.is_below.Tie as tie
+use Rattle.edges.proofs.is_below.Statement.{statement}
+use Rattle.edges.proofs.is_below.Tie as tie
 
 returns : tie.Need-returns
 returns c = sym (below-differ _ _ _ _ (c .before .before .if1 .taken))

@@ -1,4 +1,4 @@
--- `reads::symbol_at` meets its contract. Assumes nothing.
+-- `edges::symbol_at` meets its contract. Assumes nothing.
 use mathlib.Core.Path.{ap, _∙_}
 use Prim.Native.Nat.{_+_, _-_, _*_}
 use native.Mathlib.Omega.{arith}
@@ -8,8 +8,8 @@ use Rattle.grammar.specs.Table.{grammarOf}
 use Rattle.grammar.proofs.Lookups.{left-read, slot-read, slots-seven}
 use Rattle.grammar.proofs.Occurrences.{at-left, at-right, at-none, at-slot-none}
 use borrow.Author.Needs.{needs}
-use Rattle.reads.proofs.symbol_at.Statement.{statement}
-use Rattle.reads.proofs.symbol_at.Tie as tie
+use Rattle.edges.proofs.symbol_at.Statement.{statement}
+use Rattle.edges.proofs.symbol_at.Tie as tie
 
 cast-at : tie.Need-cast-at
 cast-at c = search needs

@@ -1,9 +1,9 @@
--- `reads::occurrences_ok` meets its contract. Assumes nothing.
+-- `edges::occurrences_ok` meets its contract. Assumes nothing.
 use borrow.Author.Tests.{lt-leb, le-leb}
 use Rattle.numbers.specs.Lists.{both}
 use borrow.Author.Needs.{needs}
-use Rattle.reads.proofs.occurrences_ok.Statement.{statement}
-use Rattle.reads.proofs.occurrences_ok.Tie as tie
+use Rattle.edges.proofs.occurrences_ok.Statement.{statement}
+use Rattle.edges.proofs.occurrences_ok.Tie as tie
 
 cast-if1 : tie.Need-cast-if1
 cast-if1 c = search needs

@@ -1,13 +1,13 @@
--- `reads::read_edge` meets its contract: each return by the tests that led there. Assumes nothing.
+-- `edges::read_edge` meets its contract: each return by the tests that led there. Assumes nothing.
 use mathlib.Core.Path.{sym, ap, _∙_}
 use borrow.Author.Tests.{not-true, not-false}
 use Rattle.grammar.specs.Table.{grammarOf}
 use Rattle.grammar.specs.Steps.{edgeRead}
 use Rattle.grammar.proofs.Handing.{read-ten, read-eleven, read-twelve, read-thirteen, read-seven, read-whole}
-use Rattle.reads.proofs.Asked.{there, is-there, not-there, occurrences-told, attributes-told, target-told}
+use Rattle.edges.proofs.Asked.{there, is-there, not-there, occurrences-told, attributes-told, target-told}
 use borrow.Author.Needs.{needs}
-use Rattle.reads.proofs.read_edge.Statement.{statement}
-use Rattle.reads.proofs.read_edge.Tie as tie
+use Rattle.edges.proofs.read_edge.Statement.{statement}
+use Rattle.edges.proofs.read_edge.Tie as tie
 
 edge-at-requires : tie.Need-edge-at-requires
 edge-at-requires c κs = search needs
