@@ -2,12 +2,6 @@
 use mathlib.Core.Path.{sym, _∙_}
 use denote.Ref.{now}
 use Rattle.numbers.proofs.Reading.{OneOutcome, OneResult}
-use Rattle.closures.proofs.own_rows.Kinds as own-rows-kinds
-use Rattle.closures.proofs.own_rows.Reads as own-rows-reads
-use Rattle.closures.proofs.place.Kinds as place-kinds
-use Rattle.closures.proofs.place.Reads as place-reads
-use Rattle.closures.proofs.place_all.Kinds as place-all-kinds
-use Rattle.closures.proofs.place_all.Reads as place-all-reads
 use Rattle.closures.proofs.close.Kinds as close-kinds
 use Rattle.closures.proofs.close.Reads as close-reads
 use Rattle.closures.proofs.has_circle.Kinds as has-circle-kinds
@@ -15,16 +9,7 @@ use Rattle.closures.proofs.has_circle.Reads as has-circle-reads
 use Rattle.closures.proofs.root_graph.Kinds as root-graph-kinds
 use Rattle.closures.proofs.root_graph.Reads as root-graph-reads
 
-pub one-reading-own-rows : OneResult 1 own-rows-kinds.ps own-rows-kinds.r own-rows-reads.Post
-one-reading-own-rows κs a x y s t p q = p ∙ sym q
-
 -- the rows are lent: what comes back is what they hold afterwards
-pub one-reading-place : OneOutcome 1 place-kinds.ps place-kinds.r place-reads.Post (λ κs r s. now (s .0))
-one-reading-place κs a x y s t p q = p ∙ sym q
-
-pub one-reading-place-all : OneOutcome 2 place-all-kinds.ps place-all-kinds.r place-all-reads.Post (λ κs r s. now (s .0))
-one-reading-place-all κs a x y s t p q = p ∙ sym q
-
 pub one-reading-close : OneOutcome 1 close-kinds.ps close-kinds.r close-reads.Post (λ κs r s. now (s .0))
 one-reading-close κs a x y s t p q = p ∙ sym q
 

@@ -1,94 +1,17 @@
-// Graphs as rows of bits: a row for each attribute of the eight occurrences that a production has at most, and in it a bit for each.
+// The closure of a compound graph, and what is read off it. Who closes a graph finds here too what makes its rows.
 ghost use mathlib.Core.Path.{_≡_};
-ghost use mathlib.Core.List.{map};
-ghost use Prim.Native.Nat.{_*_, _+_, _<_, _≤_, min};
-ghost use lib.ListN.{length, getD, take, replicate};
-ghost use Rattle.grammar.specs.Table.{attributes, nodeIn, edgesIn};
-ghost use Rattle.graph.specs.Rows.{node, link, own, placed, placedFrom, through, hasCircle, rootGraph};
+ghost use Prim.Native.Nat.{_*_, _<_, _≤_, min};
+ghost use lib.ListN.{length, take};
+ghost use Rattle.grammar.specs.Table.{attributes};
+ghost use Rattle.graph.specs.Rows.{through, hasCircle, rootGraph};
 ghost use Rattle.graph.specs.Parts.{mostNodes, mapFirst, targetsTo, closedFirst};
+use compounds::ATTRIBUTE_BITS;
+pub use compounds::own_rows;
+pub use compounds::place;
+pub use compounds::place_all;
 use grammar::ATTRIBUTES;
-use grammar::EDGE_BYTES;
 use grammar::NODES;
 use grammar::SLOTS;
-
-// As many low bits of a row as an occurrence has attributes.
-const ATTRIBUTE_BITS: u64 = (1 << ATTRIBUTES) - 1;
-
-// The number of the node whose occurrence and attribute stand at `at`.
-fn node_at(run: &[u8], at: usize) -> usize
-    requires { ⌜ at + 1 < length (now run) ⌝ }
-    ensures { λ r. ⌜ r ≡ node attributes (nodeIn (now (run .entry)) at) ⌝ }
-{
-    ATTRIBUTES * (run[at] as usize) + run[at + 1] as usize
-}
-
-// One edge more; nothing changes where there is no such node.
-fn add_edge(rows: &mut [u64; NODES], source: usize, target: usize)
-    requires { ⌜ length (now rows) ≡ mostNodes ⌝ }
-    ensures { λ _. ⌜ now (rows .exit) ≡ link source target (now (rows .entry)) ⌝ }
-{
-    if source < NODES {
-        if target < NODES {
-            rows[source] = rows[source] | 1 << target;
-        }
-    }
-}
-
-// The edges of a run of edge records.
-pub fn own_rows(run: &[u8]) -> [u64; NODES]
-    ensures { λ r. ⌜ r ≡ own attributes (edgesIn (now (run .entry))) (replicate mostNodes 0) ⌝ }
-{
-    let mut rows = [0u64; NODES];
-    let count = run.len() / EDGE_BYTES;
-    for e in 0..count {
-        let at = EDGE_BYTES * e;
-        let source = node_at(run, at + 2);
-        let target = node_at(run, at + 4);
-        add_edge(&mut rows, source, target);
-    }
-    rows
-}
-
-// A subtree's pairs, joined in at its occurrence.
-fn place_in(rows: &mut [u64], graph: u64, occurrence: usize)
-    requires { ⌜ length (now rows) ≡ mostNodes ⌝ }
-    ensures { λ _. ⌜ now (rows .exit) ≡ placed attributes occurrence graph (now (rows .entry)) ⌝ }
-{
-    if SLOTS < occurrence {
-        return;
-    }
-    let base = ATTRIBUTES * occurrence;
-    for a in 0..ATTRIBUTES {
-        let pairs = (graph >> (ATTRIBUTES * a)) & ATTRIBUTE_BITS;
-        rows[base + a] = rows[base + a] | (pairs << base);
-    }
-}
-
-pub fn place(rows: &mut [u64; NODES], graph: u64, occurrence: usize)
-    ensures { λ _. ⌜ now (rows .exit) ≡ placed attributes occurrence graph (now (rows .entry)) ⌝ }
-{
-    place_in(rows, graph, occurrence);
-}
-
-// The graph of a stored entry's number, and none where there is no such entry.
-fn graph_of(graphs: &[u64], number: u16) -> u64
-    ensures { λ r. ⌜ r ≡ getD (now (graphs .entry)) number 0 ⌝ }
-{
-    let i = number as usize;
-    if i < graphs.len() { graphs[i] } else { 0 }
-}
-
-// The pairs of the first `count` of the picked entries, each at its occurrence. Occurrence 0 is the left symbol.
-pub fn place_all(rows: &mut [u64; NODES], graphs: &[u64], picked: [u16; SLOTS], count: usize)
-    ensures { λ _. ⌜ now (rows .exit)
-        ≡ placedFrom attributes 1 (map (λ i. getD (now (graphs .entry)) i 0) (take count picked)) (now (rows .entry)) ⌝ }
-{
-    let most = numbers::smaller(count, SLOTS);
-    for k in 0..most {
-        let pairs = graph_of(graphs, picked[k]);
-        place(rows, pairs, k + 1);
-    }
-}
 
 // A row after the step through node k, whose row is `via`.
 fn joined(k: usize, via: u64, row: u64) -> u64

@@ -1,4 +1,4 @@
--- `closures::add_edge` meets its contract. Assumes nothing.
+-- `compounds::add_edge` meets its contract. Assumes nothing.
 use mathlib.Core.Path.{sym, ap, _∙_}
 use Prim.Native.Nat.{ℕ}
 use native.Mathlib.Omega.{arith}
@@ -6,8 +6,8 @@ use borrow.Author.Needs.{needs}
 use Rattle.numbers.proofs.Bits.{power-fits}
 use Rattle.graph.specs.Rows.{joinAt}
 use Rattle.graph.proofs.Turns.{link-there, link-no-target, link-no-source}
-use Rattle.closures.proofs.add_edge.Statement.{statement}
-use Rattle.closures.proofs.add_edge.Tie as tie
+use Rattle.compounds.proofs.add_edge.Statement.{statement}
+use Rattle.compounds.proofs.add_edge.Tie as tie
 
 mul-rows : tie.Need-mul-rows
 mul-rows c = search needs

@@ -1,4 +1,4 @@
--- `closures::own_rows` meets its contract. The loop's invariant: the edges that are left, added to the rows, are all edges. Assumes nothing.
+-- `compounds::own_rows` meets its contract. The loop's invariant: the edges that are left, added to the rows, are all edges. Assumes nothing.
 use mathlib.Core.Path.{_≡_, sym, ap, ap₂, _∙_}
 use Prim.Native.Nat.{ℕ, _+_, _*_, _-_, _≤_}
 use native.Mathlib.Nat.{sub-zero}
@@ -8,8 +8,8 @@ use borrow.Author.Needs.{needs}
 use Rattle.grammar.specs.Table.{edgeIn, edgesIn}
 use Rattle.graph.specs.Rows.{link, own}
 use Rattle.graph.proofs.Turns.{ownFrom, own-more, own-done, length-link}
-use Rattle.closures.proofs.own_rows.Statement.{statement}
-use Rattle.closures.proofs.own_rows.Tie as tie
+use Rattle.compounds.proofs.own_rows.Statement.{statement}
+use Rattle.compounds.proofs.own_rows.Tie as tie
 
 abbrev Inv-loop : tie.InvT-loop
 Inv-loop run rows₀ count e₀ rows e =

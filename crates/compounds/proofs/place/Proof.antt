@@ -1,7 +1,7 @@
--- `closures::place` meets its contract. Assumes nothing.
+-- `compounds::place` meets its contract. Assumes nothing.
 use borrow.Author.Needs.{needs}
-use Rattle.closures.proofs.place.Statement.{statement}
-use Rattle.closures.proofs.place.Tie as tie
+use Rattle.compounds.proofs.place.Statement.{statement}
+use Rattle.compounds.proofs.place.Tie as tie
 
 place-in-requires : tie.Need-place-in-requires
 place-in-requires c κs = search needs

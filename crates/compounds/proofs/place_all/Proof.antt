@@ -1,4 +1,4 @@
--- `closures::place_all` meets its contract. The invariant: the pairs that are left make of the rows now what all make of them at the start.
+-- `compounds::place_all` meets its contract. The invariant: the pairs that are left make of the rows now what all make of them at the start.
 -- Assumes nothing.
 use mathlib.Core.Path.{_≡_, refl, sym, ap, _∙_}
 use mathlib.Core.List.{List, map}
@@ -8,9 +8,9 @@ use native.Mathlib.Omega.{arith}
 use lib.ListN.{length, getD, drop}
 use Rattle.graph.specs.Rows.{placed, placedFrom}
 use Rattle.numbers.proofs.Parts.{take-clipped}
-use Rattle.closures.proofs.Placing.{picks, length-picks, pick-at, one-placed, none-left}
-use Rattle.closures.proofs.place_all.Statement.{statement}
-use Rattle.closures.proofs.place_all.Tie as tie
+use Rattle.compounds.proofs.Placing.{picks, length-picks, pick-at, one-placed, none-left}
+use Rattle.compounds.proofs.place_all.Statement.{statement}
+use Rattle.compounds.proofs.place_all.Tie as tie
 
 abbrev Inv-loop : tie.InvT-loop
 Inv-loop rows₀ graphs count picked most k₀ rows k =

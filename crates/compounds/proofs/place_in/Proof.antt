@@ -1,4 +1,4 @@
--- `closures::place_in` meets its contract. The loop's invariant: the pairs that begin in the first a attributes are placed. Assumes nothing.
+-- `compounds::place_in` meets its contract. The loop's invariant: the pairs that begin in the first a attributes are placed. Assumes nothing.
 use mathlib.Core.Path.{_≡_, refl, sym, _∙_}
 use Prim.Native.Nat.{_*_, _/_, _^_, _-_, _≤_}
 use native.Mathlib.Omega.{arith}
@@ -7,8 +7,8 @@ use borrow.Author.Needs.{needs}
 use Rattle.numbers.proofs.Bits.{block-fits}
 use Rattle.graph.specs.Rows.{placedTo}
 use Rattle.graph.proofs.Turns.{placed-more, placed-out}
-use Rattle.closures.proofs.place_in.Statement.{statement}
-use Rattle.closures.proofs.place_in.Tie as tie
+use Rattle.compounds.proofs.place_in.Statement.{statement}
+use Rattle.compounds.proofs.place_in.Tie as tie
 
 abbrev Inv-loop : tie.InvT-loop
 Inv-loop rows₀ graph occurrence base a₀ rows a = (a ≤ 8) × (length rows ≡ 64) × (rows ≡ placedTo 8 occurrence graph a rows₀)

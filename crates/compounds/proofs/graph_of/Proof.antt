@@ -1,10 +1,10 @@
--- `closures::graph_of` meets its contract. Assumes nothing.
+-- `compounds::graph_of` meets its contract. Assumes nothing.
 use mathlib.Core.Path.{sym}
 use borrow.Author.Needs.{needs}
 use native.Mathlib.Omega.{arith}
 use lib.ListN.{List·getD-eq-default}
-use Rattle.closures.proofs.graph_of.Statement.{statement}
-use Rattle.closures.proofs.graph_of.Tie as tie
+use Rattle.compounds.proofs.graph_of.Statement.{statement}
+use Rattle.compounds.proofs.graph_of.Tie as tie
 
 mul-result : tie.Need-mul-result
 mul-result c = search needs

@@ -1,9 +1,9 @@
--- `closures::node_at` meets its contract. Assumes nothing.
+-- `compounds::node_at` meets its contract. Assumes nothing.
 use Prim.Native.Nat.{_+_}
 use native.Mathlib.Omega.{arith}
 use borrow.Author.Needs.{needs}
-use Rattle.closures.proofs.node_at.Statement.{statement}
-use Rattle.closures.proofs.node_at.Tie as tie
+use Rattle.compounds.proofs.node_at.Statement.{statement}
+use Rattle.compounds.proofs.node_at.Tie as tie
 
 shared-slice-read-result : tie.Need-shared-slice-read-result
 shared-slice-read-result c = search needs
