@@ -5,7 +5,7 @@ use mathlib.Core.List.{List}
 use Prim.Native.Nat.{ℕ, _≤_}
 use native.Mathlib.Omega.{arith}
 use lib.ListN.{length, take, length-append}
-use Rattle.print.proofs.Longer.{whole-input}
+use Rattle.answers.proofs.Longer.{whole-input}
 use Rattle.circ.specs.declared.Input.{Input}
 use Rattle.circ.specs.declared.Input.the-variants.{Bytes}
 use Rattle.circ.specs.Whole.{limit, room, tableBytes, circText, Reported, NoMoreThan}

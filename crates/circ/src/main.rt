@@ -100,7 +100,7 @@ fn report(text: &mut [u8], table: &[u8]) -> usize
     let mut graphs = zero_graphs();
     let mut productions = zero_numbers();
     let mut kids = zero_kids();
-    print::test_text(
+    answers::test_text(
         text,
         table,
         LIMIT,

@@ -1,4 +1,4 @@
--- The promise of each public function has one reading: the buffer and the slices afterwards, and the length that is returned. Assumes
+-- The promise of each public function has one reading: the buffer afterwards, and the place or the length that is returned. Assumes
 -- nothing.
 use mathlib.Core.Bool.{Bool}
 use mathlib.Core.List.{List}
@@ -6,20 +6,16 @@ use mathlib.Core.Path.{_≡_, sym, _∙_}
 use Prim.Native.Nat.{ℕ}
 use denote.Ref.{now}
 use Rattle.numbers.proofs.Reading.{OneOutcome}
-use Rattle.passes.specs.Slices.{Slices, slices}
-use Rattle.passes.proofs.OneReading.{told-once}
 use Rattle.print.specs.Texts.{Printed}
 use Rattle.print.proofs.put_circle.Kinds as put-circle-kinds
 use Rattle.print.proofs.put_circle.Reads as put-circle-reads
 use Rattle.print.proofs.report_text.Kinds as report-text-kinds
 use Rattle.print.proofs.report_text.Reads as report-text-reads
-use Rattle.print.proofs.test_text.Kinds as test-text-kinds
-use Rattle.print.proofs.test_text.Reads as test-text-reads
 
-abbrev Back : Type 0
+abbrev pub Back : Type 0
 Back = List ℕ × ℕ
 
-printed-once : {text : List ℕ} {ok : Bool} {old new new′ : List ℕ} {r r′ : ℕ} → Printed text ok old new r → Printed text ok old new′ r′
+pub printed-once : {text : List ℕ} {ok : Bool} {old new new′ : List ℕ} {r r′ : ℕ} → Printed text ok old new r → Printed text ok old new′ r′
     → _≡_ {A = Back} (new, r) (new′, r′)
 printed-once p q i = ((p .buffer ∙ sym (q .buffer)) i, (p .count ∙ sym (q .count)) i)
 
@@ -30,12 +26,3 @@ one-reading-put-circle κs a x y s t p q i = ((p .buffer ∙ sym (q .buffer)) i,
 pub one-reading-report-text :
     OneOutcome 6 report-text-kinds.ps report-text-kinds.r report-text-reads.Post {W = λ κs. Back} (λ κs r s. (now (s .0), r))
 one-reading-report-text κs a x y s t p q = printed-once p q
-
--- the parameters at exit: buffer, table, limit, symbols, graphs, productions, kids
-pub one-reading-test-text :
-    OneOutcome 6 test-text-kinds.ps test-text-kinds.r test-text-reads.Post {W = λ κs. Back × Slices}
-    (λ κs r s. (
-      (now (s .0), r),
-      slices (now (s .1 .1 .1 .0)) (now (s .1 .1 .1 .1 .0)) (now (s .1 .1 .1 .1 .1 .0)) (now (s .1 .1 .1 .1 .1 .1 .0)),
-    ))
-one-reading-test-text κs a x y s t p q i = (printed-once (p .text) (q .text) i, told-once (p .stored) (q .stored) i .1)

@@ -1,4 +1,4 @@
--- The text that `circ` prints, in a lent buffer. Assumes nothing.
+-- The text of a report, in a lent buffer. Assumes nothing.
 use mathlib.Core.Path.{_≡_}
 use mathlib.Core.Bool.{Bool, cond}
 use mathlib.Core.List.{List}
@@ -8,12 +8,11 @@ use lib.ListN.{length, take}
 use Rattle.numbers.specs.Lists.{both, written}
 use Rattle.rules.specs.declared.Report.{Report}
 use Rattle.rules.specs.declared.Entry.{Entry}
-use Rattle.rules.specs.Test.{test}
 use Rattle.graph.specs.declared.Trail.{Trail}
-use Rattle.texts.specs.Lines.{entryLine, circleLine, printed}
+use Rattle.texts.specs.Lines.{entryLine, circleLine}
 pub use Rattle.texts.specs.Lines.{kidsIn}
 use Rattle.lines.specs.Buffer.{lineBytes, putLine, next, Written}
-use Rattle.passes.specs.Slices.{Slices, roomOf, Tells}
+use Rattle.passes.specs.Slices.{Slices, roomOf}
 
 -- ---- what is promised
 
@@ -30,13 +29,6 @@ enough report σ old = both (leb (report .entries) (roomOf σ)) (leb (bytesFor (
 pub record Printed (text : List ℕ) (ok : Bool) (old new : List ℕ) (r : ℕ) : Type 0 where
   pub buffer : new ≡ cond ok (written text old) old
   pub count : r ≡ cond ok (length text) 0
-
--- the test of a table: what it stores is left in the slices, and what it comes to is printed
-pub record TestPrinted (bs : List ℕ) (limit : ℕ) (σ τ : Slices) (old new : List ℕ) (r : ℕ) : Type 0 where
-  pub stored : Tells (test bs limit (roomOf σ)) σ (test bs limit (roomOf σ) .report) τ
-  pub text :
-      Printed (printed (kidsIn bs) (test bs limit (roomOf σ)))
-      (leb (bytesFor (length (test bs limit (roomOf σ) .entries))) (length old)) old new r
 
 -- no circle's line has more
 abbrev pub circleBytes : ℕ

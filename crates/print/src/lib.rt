@@ -1,4 +1,4 @@
-// What `circ` prints, as one text at the front of a buffer that the caller lends.
+// The text of a report at the front of a buffer that the caller lends.
 ghost use mathlib.Core.Path.{_≡_};
 ghost use Prim.Native.Nat.{_+_, _*_, _≤_, _<_};
 ghost use lib.Dec.{leb};
@@ -8,8 +8,8 @@ ghost use Rattle.graph.specs.Parts.{mostNodes};
 ghost use Rattle.lines.specs.Buffer.{lineBytes};
 ghost use Rattle.texts.specs.Lines.{firstLine, rootLine, linkText, linksText, circleLine, entryLines, rootLines, rest, printed};
 ghost use Rattle.steps.specs.Slices.{roomFor};
-ghost use Rattle.passes.specs.Slices.{lent, atEntry, atExit, roomOf, entryAt, entriesTo, readOut};
-ghost use Rattle.print.specs.Texts.{kidsIn, entryText, Placed, bytesFor, circleBytes, linkBytes, enough, CirclePut, Printed, TestPrinted};
+ghost use Rattle.passes.specs.Slices.{lent, atEntry, roomOf, entryAt, entriesTo, readOut};
+ghost use Rattle.print.specs.Texts.{kidsIn, entryText, Placed, bytesFor, circleBytes, linkBytes, enough, CirclePut, Printed};
 use grammar::NODES;
 use grammar::SLOTS;
 use graph::Trail;
@@ -234,24 +234,4 @@ pub fn report_text(
     }
     let end = first_line(buf, report);
     rest_lines(buf, end, table, report, symbols, graphs, productions, kids)
-}
-
-// The text of the test of a table with at most `limit` closures. The stored entries are left at the front of the slices. Where the
-// buffer has less than LINE_BYTES for the line of each of them and for OTHER_LINES, it is as before and the answer is 0.
-pub fn test_text(
-    buf: &mut [u8],
-    table: &[u8],
-    limit: u32,
-    symbols: &mut [u16],
-    graphs: &mut [u64],
-    productions: &mut [u16],
-    kids: &mut [u16],
-) -> usize
-    ensures { λ r. ⌜ TestPrinted (now (table .entry)) limit
-        (atEntry symbols graphs productions kids)
-        (atExit symbols graphs productions kids)
-        (now (buf .entry)) (now (buf .exit)) r ⌝ }
-{
-    let report = passes::test(table, limit, symbols, graphs, productions, kids);
-    report_text(buf, table, report, symbols, graphs, productions, kids)
 }

@@ -3,7 +3,7 @@ use mathlib.Core.Path.{_≡_}
 use native.Mathlib.Omega.{arith}
 use borrow.Author.Needs.{needs}
 use Rattle.passes.specs.Slices.{slices, roomOf}
-use Rattle.print.proofs.Stored.{always-printed}
+use Rattle.answers.proofs.Stored.{always-printed}
 use Rattle.circ.specs.Whole.{limit, room, circText}
 use Rattle.circ.proofs.report.Statement.{statement}
 use Rattle.circ.proofs.report.Tie as tie

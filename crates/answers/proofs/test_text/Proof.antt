@@ -1,9 +1,9 @@
 -- The test's promise and the text's, put together. Assumes nothing.
 use borrow.Author.Needs.{needs}
 use Rattle.passes.specs.Slices.{slices}
-use Rattle.print.proofs.Stored.{same-room, test-printed}
-use Rattle.print.proofs.test_text.Statement.{statement}
-use Rattle.print.proofs.test_text.Tie as tie
+use Rattle.answers.proofs.Stored.{same-room, test-printed}
+use Rattle.answers.proofs.test_text.Statement.{statement}
+use Rattle.answers.proofs.test_text.Tie as tie
 
 test-requires : tie.Need-test-requires
 test-requires c κs = search needs

@@ -14,7 +14,8 @@ use Rattle.rules.proofs.Stored.{Counted, counted-test}
 use Rattle.texts.specs.Lines.{printed}
 use Rattle.passes.specs.Slices.{Slices, roomOf, Tells, Tested, entriesTo, readOut}
 use Rattle.passes.proofs.Told.{entries-told}
-use Rattle.print.specs.Texts.{kidsIn, bytesFor, enough, Printed, TestPrinted}
+use Rattle.print.specs.Texts.{kidsIn, bytesFor, enough, Printed}
+use Rattle.answers.specs.Answered.{TestPrinted}
 
 module _ (o : Outcome) (σ : Slices) (r : Report) (τ : Slices) (good : Counted (roomOf σ) o) (t : Tells o σ r τ) where
   count : r .entries ≡ length (o .entries)

@@ -1,0 +1,2 @@
+-- What the printed test promises.
+pub mod Answered
