@@ -2,10 +2,6 @@
 use mathlib.Core.Path.{sym, _∙_}
 use denote.Ref.{now}
 use Rattle.numbers.proofs.Reading.{OneOutcome, OneResult}
-use Rattle.tables.proofs.header_of.Kinds as header-of-kinds
-use Rattle.tables.proofs.header_of.Reads as header-of-reads
-use Rattle.tables.proofs.offsets_of.Kinds as offsets-of-kinds
-use Rattle.tables.proofs.offsets_of.Reads as offsets-of-reads
 use Rattle.tables.proofs.symbol_of.Kinds as symbol-of-kinds
 use Rattle.tables.proofs.symbol_of.Reads as symbol-of-reads
 use Rattle.tables.proofs.production_of.Kinds as production-of-kinds
@@ -14,12 +10,6 @@ use Rattle.tables.proofs.edge_at.Kinds as edge-at-kinds
 use Rattle.tables.proofs.edge_at.Reads as edge-at-reads
 use Rattle.tables.proofs.run_of.Kinds as run-of-kinds
 use Rattle.tables.proofs.run_of.Reads as run-of-reads
-
-pub one-reading-header-of : OneResult 1 header-of-kinds.ps header-of-kinds.r header-of-reads.Post
-one-reading-header-of κs a x y s t p q = p ∙ sym q
-
-pub one-reading-offsets-of : OneResult 1 offsets-of-kinds.ps offsets-of-kinds.r offsets-of-reads.Post
-one-reading-offsets-of κs a x y s t p q = p ∙ sym q
 
 pub one-reading-symbol-of : OneResult 1 symbol-of-kinds.ps symbol-of-kinds.r symbol-of-reads.Post
 one-reading-symbol-of κs a x y s t p q = p ∙ sym q

@@ -1,4 +1,4 @@
-// What stands at a number in a table.
+// What stands at a number in a table. Who reads a table finds here too what its header says.
 use numbers::byte_at;
 use numbers::smaller;
 use numbers::two_at;
@@ -21,46 +21,11 @@ use grammar::Production;
 use grammar::SLOTS;
 use grammar::SYMBOL_BYTES;
 use grammar::Symbol;
+pub use headers::header_of;
+pub use headers::offsets_of;
 
-// What is there whole, a header or a record, is read out of a slice of its own length, which the compiler knows: then no byte is asked for
-// whether it is there. That is so only where such a slice has a call of its own, so each reader is called twice.
-
-fn header_from(bytes: &[u8]) -> Header
-    ensures { λ r. ⌜ r ≡ headerOf (now (bytes .entry)) ⌝ }
-{
-    Header {
-        symbols: two_at(bytes, 0),
-        productions: two_at(bytes, 2),
-        edges: two_at(bytes, 4),
-        start: two_at(bytes, 6),
-    }
-}
-
-pub fn header_of(table: &[u8]) -> Header
-    ensures { λ r. ⌜ r ≡ headerOf (now (table .entry)) ⌝ }
-{
-    if HEADER_BYTES <= table.len() {
-        header_from(&table[..HEADER_BYTES])
-    } else {
-        header_from(table)
-    }
-}
-
-// By the counts of the header, and not by the offsets that it gives.
-pub fn offsets_of(table: &[u8]) -> Offsets
-    ensures { λ r. ⌜ r ≡ offsetsOf (now (table .entry)) ⌝ }
-{
-    let h = header_of(table);
-    let productions = HEADER_BYTES + SYMBOL_BYTES * (h.symbols as usize);
-    let edges = productions + PRODUCTION_BYTES * (h.productions as usize);
-    let total = edges + EDGE_BYTES * (h.edges as usize);
-    Offsets {
-        symbols: HEADER_BYTES as u32,
-        productions: productions as u32,
-        edges: edges as u32,
-        total: total as u32,
-    }
-}
+// A record that is there whole is read out of a slice of its own length, which the compiler knows: then no byte is asked for whether it is
+// there. That is so only where such a slice has a call of its own, so each reader is called twice.
 
 // The symbol of a number, and one without attributes where there is none.
 pub fn symbol_of(table: &[u8], s: usize) -> Symbol

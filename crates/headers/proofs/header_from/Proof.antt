@@ -1,7 +1,7 @@
--- `tables::header_from` meets its contract. Assumes nothing.
+-- `headers::header_from` meets its contract. Assumes nothing.
 use borrow.Author.Needs.{needs}
-use Rattle.tables.proofs.header_from.Statement.{statement}
-use Rattle.tables.proofs.header_from.Tie as tie
+use Rattle.headers.proofs.header_from.Statement.{statement}
+use Rattle.headers.proofs.header_from.Tie as tie
 
 two-at-requires : tie.Need-two-at-requires
 two-at-requires c κs = search needs

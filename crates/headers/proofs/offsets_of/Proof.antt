@@ -1,11 +1,11 @@
--- `tables::offsets_of` meets its contract. Assumes nothing.
+-- `headers::offsets_of` meets its contract. Assumes nothing.
 use mathlib.Core.Path.{ap}
 use Prim.Native.Nat.{_+_, _*_}
 use borrow.Author.Needs.{needs}
 use Rattle.grammar.specs.declared.Header.{Header}
 use Rattle.grammar.specs.declared.Offsets.{Offsets}
-use Rattle.tables.proofs.offsets_of.Statement.{statement}
-use Rattle.tables.proofs.offsets_of.Tie as tie
+use Rattle.headers.proofs.offsets_of.Statement.{statement}
+use Rattle.headers.proofs.offsets_of.Tie as tie
 
 header-of-requires : tie.Need-header-of-requires
 header-of-requires c κs = search needs

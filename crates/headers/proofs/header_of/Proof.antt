@@ -1,11 +1,11 @@
--- `tables::header_of` meets its contract. Assumes nothing.
+-- `headers::header_of` meets its contract. Assumes nothing.
 use mathlib.Core.Path.{_∙_}
 use native.Mathlib.Omega.{arith}
 use borrow.Author.Needs.{needs}
 use lib.ListN.{length-take}
 use Rattle.grammar.proofs.Lookups.{header-in-front}
-use Rattle.tables.proofs.header_of.Statement.{statement}
-use Rattle.tables.proofs.header_of.Tie as tie
+use Rattle.headers.proofs.header_of.Statement.{statement}
+use Rattle.headers.proofs.header_of.Tie as tie
 
 slice-aggregate-header-from : tie.Need-slice-aggregate-header-from
 slice-aggregate-header-from c = omega (arith, length-take 24 (c .before .before .before .args .table .now))
