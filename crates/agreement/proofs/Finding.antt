@@ -21,8 +21,8 @@ use Rattle.parts.specs.Rule.{taking}
 use Rattle.rules.specs.Test.{systemIn, saying, afterCheck, test}
 use Rattle.orders.specs.Stored.{Different}
 use Rattle.orders.proofs.Answers.{outcome-sound}
-use Rattle.rows.specs.Rows.{of}
-use Rattle.rows.proofs.First.{First, first-is}
+use Rattle.lookups.specs.Lookup.{of}
+use Rattle.lookups.proofs.First.{First, first-is}
 use Rattle.agreement.specs.Agreement.{placeOf}
 
 -- no two entries that the test stores have the same symbol and graph

@@ -13,7 +13,7 @@ use Rattle.rules.specs.declared.Answer.the-variants.{Noncircular, Circular, Ref
 use Rattle.rules.specs.declared.Entry.{Entry}
 use Rattle.rules.specs.Passes.{Outcome, entry}
 use Rattle.passes.specs.Slices.{Slices, roomOf, entryAt}
-use Rattle.rows.specs.Rows.{firstOf}
+use Rattle.lookups.specs.Lookup.{firstOf}
 use Rattle.agreement.specs.declared.RowTried.{RowTried}
 
 -- what stands in every record before the test

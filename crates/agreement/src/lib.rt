@@ -208,8 +208,8 @@ fn alike<'e, 'a>(
     let mut at: usize = 0;
     while at < entries.len() {
         let e = rows::entry_at(entries, at);
-        let first = rows::lookup(entries, entries.len(), e.symbol, e.graph);
-        let before = rows::lookup(entries, at, e.symbol, e.graph);
+        let first = lookups::lookup(entries, entries.len(), e.symbol, e.graph);
+        let before = lookups::lookup(entries, at, e.symbol, e.graph);
         if !as_told(
             e,
             first,

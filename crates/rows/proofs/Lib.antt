@@ -4,5 +4,4 @@ pub mod InMemory
 pub mod Arrays
 pub mod Again
 pub mod Writing
-pub mod First
 pub mod OneReading

@@ -16,7 +16,6 @@ use denote.Triple.Entry.{Args, Res}
 use denote.Triple.Walked.{needs}
 use Rattle.rows.proofs.entry_at as entry-at
 use Rattle.rows.proofs.put_entry as put-entry
-use Rattle.rows.proofs.lookup as lookup
 
 module _ {M : Type 1} (𝓤 : URA M) where
   pub both : {φ ψ : Type 0} (χ : Type 0) → (φ → ψ → χ) → ent 𝓤 (sep 𝓤 (fact 𝓤 φ) (fact 𝓤 ψ)) (fact 𝓤 χ)
@@ -31,7 +30,3 @@ module _ {M : Type 1} (𝓤 : URA M) (H : Heap 𝓤) (A : Atoms 𝓤) (mem : Mem
       → ent 𝓤 (sep 𝓤 (put-entry.clauses 𝓤 H A mem run κs a .ensures tt x s) (put-entry.clauses 𝓤 H A mem run κs a .ensures tt y t))
       (fact 𝓤 (now (s .0) ≡ now (t .0)))
   one-reading-put-entry κs a x y s t = both 𝓤 (now (s .0) ≡ now (t .0)) (λ p q. p ∙ sym q)
-
-  pub one-reading-lookup : (κs : Lfts 1) (a : Args lookup.signature κs) (x y : Res lookup.signature κs) (s t : AtExit lookup.ended κs)
-      → ent 𝓤 (sep 𝓤 (lookup.clauses 𝓤 H A mem run κs a .ensures tt x s) (lookup.clauses 𝓤 H A mem run κs a .ensures tt y t)) (fact 𝓤 (x ≡ y))
-  one-reading-lookup κs a x y s t = both 𝓤 (x ≡ y) (λ p q. p ∙ sym q)

@@ -1,8 +1,7 @@
-// What stands at a place of a lent row of entries, and where an entry is first found.
+// What stands at a place of a lent row of entries.
 ghost use mathlib.Core.Path.{_≡_};
-ghost use lib.ListN.{set, take};
+ghost use lib.ListN.{set};
 ghost use Rattle.rules.specs.Passes.{entry, noEntry};
-ghost use Rattle.rows.specs.Rows.{of, firstOf};
 use rules::Entry;
 
 fn no_entry() -> Entry
@@ -33,30 +32,4 @@ pub fn put_entry(entries: &mut [Entry], to: usize, e: Entry)
     if to < entries.len() {
         entries[to] = e;
     }
-}
-
-// Whether it is an entry of this symbol with this graph.
-fn is_of(e: Entry, symbol: u16, graph: u64) -> bool
-    ensures { λ r. ⌜ r ≡ of symbol graph e ⌝ }
-{
-    if e.symbol == symbol {
-        e.graph == graph
-    } else {
-        false
-    }
-}
-
-// The number of the first of the first n entries that is of this symbol with this graph; where there is none, how many they are.
-pub fn lookup(entries: &[Entry], n: usize, symbol: u16, graph: u64) -> usize
-    ensures { λ r. ⌜ r ≡ firstOf symbol graph (take n (now (entries .entry))) ⌝ }
-{
-    let count = numbers::smaller(n, entries.len());
-    let mut i: usize = 0;
-    while i < count {
-        if is_of(entries[i], symbol, graph) {
-            return i;
-        }
-        i += 1;
-    }
-    count
 }

@@ -55,10 +55,10 @@ use Rattle.rows.proofs.entry_at as entry-at
 use Rattle.rows.proofs.entry_at.Symbol as entry-at-def
 use Rattle.rows.proofs.entry_at.Symbol.{name as #rows·entry-at}
 use Rattle.rows.proofs.entry_at.Met as entry-at-thm
-use Rattle.rows.proofs.lookup as lookup
-use Rattle.rows.proofs.lookup.Symbol as lookup-def
-use Rattle.rows.proofs.lookup.Symbol.{name as #rows·lookup}
-use Rattle.rows.proofs.lookup.Met as lookup-thm
+use Rattle.lookups.proofs.lookup as lookup
+use Rattle.lookups.proofs.lookup.Symbol as lookup-def
+use Rattle.lookups.proofs.lookup.Symbol.{name as #lookups·lookup}
+use Rattle.lookups.proofs.lookup.Met as lookup-thm
 use Rattle.records.proofs.Four.{Four, slicesOf, Owned, twice}
 use Rattle.agreement.specs.Agreement.{AsTold, placeOf, Alike}
 use Rattle.agreement.proofs.Exactly.{always, never}
@@ -218,7 +218,7 @@ module _ {M : Type 1} (𝓤 : URA M) (H : Heap 𝓤) (A : Atoms 𝓤) (W : Given
   Nearer-wf : WellFounded Nearer
   Nearer-wf = InvImage·wf (λ (y : State). y .1 .0) (Nat·lt-wfRel .wf)
 
-  module _ (𝓣 : Tables 𝓤 H) (entry-at-known : Triple 𝓤 (𝓣 .C #rows·entry-at) (EntryAt 𝓤 H A mem run)) (lookup-known : Triple 𝓤 (𝓣 .C #rows·lookup) (Lookup 𝓤 H A mem run)) (as-told-known : Triple 𝓤 (𝓣 .C #agreement·as-told) (AsTolds 𝓤 H A mem run))
+  module _ (𝓣 : Tables 𝓤 H) (entry-at-known : Triple 𝓤 (𝓣 .C #rows·entry-at) (EntryAt 𝓤 H A mem run)) (lookup-known : Triple 𝓤 (𝓣 .C #lookups·lookup) (Lookup 𝓤 H A mem run)) (as-told-known : Triple 𝓤 (𝓣 .C #agreement·as-told) (AsTolds 𝓤 H A mem run))
       (l₀ l₁ l₂ l₃ l₄ l₅ l₆ l₇ l₈ l₉ l₁₀ l₁₁ l₁₂ l₁₃ : ℕ) where
     abbrev C : Calls 𝓤 H
     C = 𝓣 .C
@@ -321,7 +321,7 @@ module _ {M : Type 1} (𝓤 : URA M) (H : Heap 𝓤) (A : Atoms 𝓤) (W : Given
   none-passed : Passed 0
   none-passed j l = absurd (omega arith)
 
-  walk : (𝓣 : Tables 𝓤 H) → Triple 𝓤 (𝓣 .C #rows·entry-at) (EntryAt 𝓤 H A mem run) → Triple 𝓤 (𝓣 .C #rows·lookup) (Lookup 𝓤 H A mem run) → Triple 𝓤 (𝓣 .C #agreement·as-told) (AsTolds 𝓤 H A mem run)
+  walk : (𝓣 : Tables 𝓤 H) → Triple 𝓤 (𝓣 .C #rows·entry-at) (EntryAt 𝓤 H A mem run) → Triple 𝓤 (𝓣 .C #lookups·lookup) (Lookup 𝓤 H A mem run) → Triple 𝓤 (𝓣 .C #agreement·as-told) (AsTolds 𝓤 H A mem run)
       → Is (ShrSlice (named 1) κ′ u16) (a .0) (slice-vals (a .0)) → Is (ShrSlice (named 1) κ′ u64) (a .1 .0) (slice-vals (a .1 .0)) → Is (ShrSlice (named 1) κ′ u16) (a .1 .1 .0) (slice-vals (a .1 .1 .0)) → Is (ShrSlice (named 1) κ′ u16) (a .1 .1 .1) (slice-vals (a .1 .1 .1))
       → ent 𝓤 (onEntry 𝓤 H A f.signature (κ, (κ′, tt)) (q, (q′, tt)) args at) (WpFn 𝓤 H (𝓣 .C) (𝓣 .Λ) code.function machine Post)
   walk 𝓣 entry-at-known lookup-known as-told-known p₁ p₂ p₃ p₄ =
@@ -337,7 +337,7 @@ module _ {M : Type 1} (𝓤 : URA M) (H : Heap 𝓤) (A : Atoms 𝓤) (W : Given
       move ! (1 ∷ 0 ∷ []) $ fjoin ! $ move ! (1 ∷ 0 ∷ []) $ fjoin ! $ move ! (1 ∷ 0 ∷ []) $ fjoin ! $ move ! (3 ∷ 2 ∷ 1 ∷ 0 ∷ []) $
       first ! $ blocks ! $ loops ! 𝓣 Nearer Nearer-wf (At 𝓣 entry-at-known lookup-known as-told-known l₀ l₁ l₂ l₃ l₄ l₅ l₆ l₇ l₈ l₉ l₁₀ l₁₁ l₁₂ l₁₃) (turned 𝓣 entry-at-known lookup-known as-told-known l₀ l₁ l₂ l₃ l₄ l₅ l₆ l₇ l₈ l₉ l₁₀ l₁₁ l₁₂ l₁₃) (0, (length ys, (zero-add (length ys), none-passed)))))))))))))))))
 
-alike-meets : {M : Type 1} (𝓤 : URA M) (H : Heap 𝓤) (A : Atoms 𝓤) → Given 𝓤 H A → (mem : Memory → SProp 𝓤) (run : Routine → Fun 𝓤) (𝓣 : Tables 𝓤 H) → Triple 𝓤 (𝓣 .C #rows·entry-at) (EntryAt 𝓤 H A mem run) → Triple 𝓤 (𝓣 .C #rows·lookup) (Lookup 𝓤 H A mem run) → Triple 𝓤 (𝓣 .C #agreement·as-told) (AsTolds 𝓤 H A mem run)
+alike-meets : {M : Type 1} (𝓤 : URA M) (H : Heap 𝓤) (A : Atoms 𝓤) → Given 𝓤 H A → (mem : Memory → SProp 𝓤) (run : Routine → Fun 𝓤) (𝓣 : Tables 𝓤 H) → Triple 𝓤 (𝓣 .C #rows·entry-at) (EntryAt 𝓤 H A mem run) → Triple 𝓤 (𝓣 .C #lookups·lookup) (Lookup 𝓤 H A mem run) → Triple 𝓤 (𝓣 .C #agreement·as-told) (AsTolds 𝓤 H A mem run)
     → Meets 𝓤 H A f.signature (WpFn 𝓤 H (𝓣 .C) (𝓣 .Λ) code.function) (f.spec 𝓤 H A mem run)
 alike-meets 𝓤 H A W mem run 𝓣 entry-at-known lookup-known as-told-known =
     walk-meets 𝓤 H A f.ended stayed W (
@@ -359,5 +359,5 @@ alike-spec 𝓤 H 𝓜 𝓖 𝓡 =
     (tables 𝓤 H 𝓜 𝓡 code.env .C) (tables 𝓤 H 𝓜 𝓡 code.env .Λ) #agreement·alike code.function (code.unfolded 𝓤 H 𝓜 𝓡)
     (alike-meets 𝓤 H (𝓖 .A) (givenOf 𝓤 H 𝓜 𝓖) (𝓜 .mem) (𝓡 .run) (tablesOf 𝓤 H 𝓜 (tables 𝓤 H 𝓜 𝓡 code.env))
     (cited 𝓤 H (EntryAt 𝓤 H (𝓖 .A) (𝓜 .mem) (𝓡 .run)) 𝓜 𝓡 code.env #rows·entry-at entry-at-def.routine code.calls-rows·entry-at (entry-at-thm.met 𝓤 H 𝓜 𝓖 𝓡))
-    (cited 𝓤 H (Lookup 𝓤 H (𝓖 .A) (𝓜 .mem) (𝓡 .run)) 𝓜 𝓡 code.env #rows·lookup lookup-def.routine code.calls-rows·lookup (lookup-thm.met 𝓤 H 𝓜 𝓖 𝓡))
+    (cited 𝓤 H (Lookup 𝓤 H (𝓖 .A) (𝓜 .mem) (𝓡 .run)) 𝓜 𝓡 code.env #lookups·lookup lookup-def.routine code.calls-lookups·lookup (lookup-thm.met 𝓤 H 𝓜 𝓖 𝓡))
     (cited 𝓤 H (AsTolds 𝓤 H (𝓖 .A) (𝓜 .mem) (𝓡 .run)) 𝓜 𝓡 code.env #agreement·as-told as-told-def.routine code.calls-agreement·as-told (as-told-thm.met 𝓤 H 𝓜 𝓖 𝓡)))

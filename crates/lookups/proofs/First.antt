@@ -7,7 +7,7 @@ use native.Mathlib.Omega.{arith}
 use lib.ListN.{length}
 use Rattle.rules.specs.declared.Entry.{Entry}
 use Rattle.rules.specs.Passes.{entry}
-use Rattle.rows.specs.Rows.{of, firstOf}
+use Rattle.lookups.specs.Lookup.{of, firstOf}
 
 -- k is the number of the first entry of this symbol with this graph, or how many entries there are
 pub record First (symbol graph : ℕ) (es : List Entry) (k : ℕ) : Type 0 where

@@ -1,4 +1,4 @@
--- `rows::lookup` meets its promise: a walk of its MIR. A turn looks into the slice, reads one entry, shuts it again, and asks `is_of`; it
+-- `lookups::lookup` meets its promise: a walk of its MIR. A turn looks into the slice, reads one entry, shuts it again, and asks `is_of`; it
 -- returns from within the loop, or goes on. All that the proof knows of `smaller` and `is_of` is their promises. Assumes nothing.
 use mathlib.Core.Path.{_≡_, refl, sym, _∙_, ap}
 use Prim.Native.Nat.{ℕ, zero, suc, _+_, _≤_, _<_, _^_, min}
@@ -54,18 +54,18 @@ use Rattle.numbers.proofs.smaller.Symbol.{name as #numbers·smaller}
 use Rattle.numbers.proofs.smaller.Met as smaller-thm
 use Rattle.rules.specs.declared.Entry.{Entry}
 use Rattle.rules.specs.Passes.{noEntry, entry}
-use Rattle.rows.specs.Rows.{of, firstOf}
+use Rattle.lookups.specs.Lookup.{of, firstOf}
 use Rattle.rows.proofs.InMemory.{size, bytes-fit, Row, entryTy, vals, tells, makes, copies, typed}
 use Rattle.rows.proofs.Walking.{holds, fails, spare, held, locals, lets-go, gives}
-use Rattle.rows.proofs.is_of as is-of
-use Rattle.rows.proofs.is_of.Symbol as is-of-def
-use Rattle.rows.proofs.is_of.Symbol.{name as #rows·is-of}
-use Rattle.rows.proofs.is_of.Met as is-of-thm
-use Rattle.rows.proofs.lookup.Key.{name as #rows·lookup}
-use Rattle.rows.proofs.lookup as f
-use Rattle.rows.proofs.lookup.Statement as stated
-use Rattle.rows.proofs.lookup.Code as code
-use Rattle.rows.proofs.lookup.Code.Mir as Mir
+use Rattle.lookups.proofs.is_of as is-of
+use Rattle.lookups.proofs.is_of.Symbol as is-of-def
+use Rattle.lookups.proofs.is_of.Symbol.{name as #lookups·is-of}
+use Rattle.lookups.proofs.is_of.Met as is-of-thm
+use Rattle.lookups.proofs.lookup.Key.{name as #lookups·lookup}
+use Rattle.lookups.proofs.lookup as f
+use Rattle.lookups.proofs.lookup.Statement as stated
+use Rattle.lookups.proofs.lookup.Code as code
+use Rattle.lookups.proofs.lookup.Code.Mir as Mir
 
 -- ---- the search, entry by entry: i entries are passed, and t are left
 
@@ -188,7 +188,7 @@ module _ {M : Type 1} (𝓤 : URA M) (H : Heap 𝓤) (A : Atoms 𝓤) (W : Given
   Nearer-wf : WellFounded Nearer
   Nearer-wf = InvImage·wf (λ (y : State). y .1 .0) (Nat·lt-wfRel .wf)
 
-  module _ (𝓣 : Tables 𝓤 H) (known : Triple 𝓤 (𝓣 .C #rows·is-of) (IsOf 𝓤 H A mem run)) (l₀ l₁ l₂ l₃ l₄ l₅ l₆ l₇ l₈ l₉ l₁₀ l₁₁ l₁₂ : ℕ) where
+  module _ (𝓣 : Tables 𝓤 H) (known : Triple 𝓤 (𝓣 .C #lookups·is-of) (IsOf 𝓤 H A mem run)) (l₀ l₁ l₂ l₃ l₄ l₅ l₆ l₇ l₈ l₉ l₁₀ l₁₁ l₁₂ : ℕ) where
     abbrev C : Calls 𝓤 H
     C = 𝓣 .C
 
@@ -260,7 +260,7 @@ module _ {M : Type 1} (𝓤 : URA M) (H : Heap 𝓤) (A : Atoms 𝓤) (W : Given
     turned : (y : State) → Sq W (At y) (runs C Λ En Mir.turn-1 (anyQ (Turned y)))
     turned y = turns (y .0) (y .1 .0) (y .1 .1 .0) (y .1 .1 .1)
 
-  walk : (𝓣 : Tables 𝓤 H) → Triple 𝓤 (𝓣 .C #numbers·smaller) (Smaller 𝓤 H A mem run) → Triple 𝓤 (𝓣 .C #rows·is-of) (IsOf 𝓤 H A mem run)
+  walk : (𝓣 : Tables 𝓤 H) → Triple 𝓤 (𝓣 .C #numbers·smaller) (Smaller 𝓤 H A mem run) → Triple 𝓤 (𝓣 .C #lookups·is-of) (IsOf 𝓤 H A mem run)
       → ent 𝓤 (onEntry 𝓤 H A f.signature (κ, tt) (q, tt) args at) (WpFn 𝓤 H (𝓣 .C) (𝓣 .Λ) code.function machine Post)
   walk 𝓣 known-smaller known =
       qed W ((‵ (flft κ q) ⊛ ‵ ftrue) ∷ ‵ (owns (ShrSlice (named 0) κ Row ∷ usize ∷ u16 ∷ u64 ∷ []) args at) ∷ []) ∵ enter ! (𝓣 .C) (𝓣 .Λ) code.function machine _ $
@@ -278,7 +278,7 @@ module _ {M : Type 1} (𝓤 : URA M) (H : Heap 𝓤) (A : Atoms 𝓤) (W : Given
       move ! (0 ∷ 3 ∷ 2 ∷ 4 ∷ 1 ∷ 5 ∷ []) $ move ! (4 ∷ []) $ let-drop ! $ move ! (4 ∷ []) $ let-drop ! $
       first ! $ blocks ! $ loops ! 𝓣 Nearer Nearer-wf (At 𝓣 known l₀ l₁ l₂ l₃ l₄ l₅ l₆ l₇ l₈ l₉ l₁₀ l₁₁ l₁₂) (turned 𝓣 known l₀ l₁ l₂ l₃ l₄ l₅ l₆ l₇ l₈ l₉ l₁₀ l₁₁ l₁₂) (0, (count, (zero-add count, begins s g ys n))))))))))))))))))
 
-lookup-meets : {M : Type 1} (𝓤 : URA M) (H : Heap 𝓤) (A : Atoms 𝓤) → Given 𝓤 H A → (mem : Memory → SProp 𝓤) (run : Routine → Fun 𝓤) (𝓣 : Tables 𝓤 H) → Triple 𝓤 (𝓣 .C #numbers·smaller) (Smaller 𝓤 H A mem run) → Triple 𝓤 (𝓣 .C #rows·is-of) (IsOf 𝓤 H A mem run)
+lookup-meets : {M : Type 1} (𝓤 : URA M) (H : Heap 𝓤) (A : Atoms 𝓤) → Given 𝓤 H A → (mem : Memory → SProp 𝓤) (run : Routine → Fun 𝓤) (𝓣 : Tables 𝓤 H) → Triple 𝓤 (𝓣 .C #numbers·smaller) (Smaller 𝓤 H A mem run) → Triple 𝓤 (𝓣 .C #lookups·is-of) (IsOf 𝓤 H A mem run)
     → Meets 𝓤 H A f.signature (WpFn 𝓤 H (𝓣 .C) (𝓣 .Λ) code.function) (f.spec 𝓤 H A mem run)
 lookup-meets 𝓤 H A W mem run 𝓣 known-smaller known =
     walk-meets 𝓤 H A f.ended stayed W (goes-none-slice 𝓤 H A W 1 (0 ∷ []) tt (plain (λ _. Row)) yes, (goes-none 𝓤 H A W 1 (λ _. usize) yes (λ κs x f. refl), (goes-none 𝓤 H A W 1 (λ _. u16) yes (λ κs x f. refl), (goes-none 𝓤 H A W 1 (λ _. u64) yes (λ κs x f. refl), tt)))) (f.clauses 𝓤 H A mem run)
@@ -292,7 +292,7 @@ pub lookup-spec : {M : Type 1} → stated.statement M
 unfolding code.routine tablesOf
 lookup-spec 𝓤 H 𝓜 𝓖 𝓡 =
     entered 𝓤 H (tripleOf 𝓤 H (𝓖 .A) f.signature (f.spec 𝓤 H (𝓖 .A) (𝓜 .mem) (𝓡 .run)))
-    (tables 𝓤 H 𝓜 𝓡 code.env .C) (tables 𝓤 H 𝓜 𝓡 code.env .Λ) #rows·lookup code.function (code.unfolded 𝓤 H 𝓜 𝓡)
+    (tables 𝓤 H 𝓜 𝓡 code.env .C) (tables 𝓤 H 𝓜 𝓡 code.env .Λ) #lookups·lookup code.function (code.unfolded 𝓤 H 𝓜 𝓡)
     (lookup-meets 𝓤 H (𝓖 .A) (givenOf 𝓤 H 𝓜 𝓖) (𝓜 .mem) (𝓡 .run) (tablesOf 𝓤 H 𝓜 (tables 𝓤 H 𝓜 𝓡 code.env))
     (cited 𝓤 H (Smaller 𝓤 H (𝓖 .A) (𝓜 .mem) (𝓡 .run)) 𝓜 𝓡 code.env #numbers·smaller smaller-def.routine code.calls-numbers·smaller (smaller-thm.met 𝓤 H 𝓜 𝓖 𝓡))
-    (cited 𝓤 H (IsOf 𝓤 H (𝓖 .A) (𝓜 .mem) (𝓡 .run)) 𝓜 𝓡 code.env #rows·is-of is-of-def.routine code.calls-rows·is-of (is-of-thm.met 𝓤 H 𝓜 𝓖 𝓡)))
+    (cited 𝓤 H (IsOf 𝓤 H (𝓖 .A) (𝓜 .mem) (𝓡 .run)) 𝓜 𝓡 code.env #lookups·is-of is-of-def.routine code.calls-lookups·is-of (is-of-thm.met 𝓤 H 𝓜 𝓖 𝓡)))

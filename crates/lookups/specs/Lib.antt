@@ -1,2 +1,2 @@
 -- A row of entries: where one is first found in it.
-pub mod Rows
+pub mod Lookup

@@ -1,8 +1,8 @@
--- `rows::is_of` meets its promise. Assumes nothing.
+-- `lookups::is_of` meets its promise. Assumes nothing.
 use borrow.Author.Tests.{eq-eqb, ne-eqb}
 use Rattle.numbers.specs.Lists.{both}
-use Rattle.rows.proofs.is_of.Statement.{statement}
-use Rattle.rows.proofs.is_of.Tie as tie
+use Rattle.lookups.proofs.is_of.Statement.{statement}
+use Rattle.lookups.proofs.is_of.Tie as tie
 
 returns : tie.Need-returns
 unfolding both
