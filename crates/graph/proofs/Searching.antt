@@ -13,7 +13,7 @@ use Rattle.graph.specs.Rows.{join}
 use Rattle.graph.specs.Parts.{mostNodes}
 use Rattle.graph.specs.Search.{into, level, firstFrom, lowest, between, leastBetween, nearer, nearestTo}
 use Rattle.graph.specs.Marks.{markInto}
-use Rattle.graph.specs.Trails.{filledUp, trailOf}
+use Rattle.graph.specs.Trails.{trail, filledUp, trailOf}
 use Rattle.graph.proofs.FirstFrom.{begun, hit, skip, over}
 use Rattle.graph.proofs.Levels.{Reach, reach-lt, level-sound}
 use Rattle.graph.proofs.LeastBetween.{nextNode, next-is}
@@ -75,16 +75,17 @@ pub record Writing (w : ℕ) (masks : List ℕ) (n : ℕ) (rows : List ℕ) (x y
   pub marks-are : marks ≡ filledUp n (map (markInto w masks) front)
   pub whole : front ++ leastBetween rows y (k - i) z ≡ leastBetween rows y k x
 
-pub writing-begun : (w : ℕ) (masks : List ℕ) (n : ℕ) (rows : List ℕ) (x y k : ℕ) → 0 < n → bit x (level rows y (suc k)) ≡ 1
-    → Writing w masks n rows x y k 0 x (set (replicate n 0) 0 x) (replicate n 0)
-writing-begun w masks n rows x y k l h =
+pub writing-begun : (w : ℕ) (masks : List ℕ) (n : ℕ) (rows : List ℕ) (x y k : ℕ) {nodes marks : List ℕ} → 0 < n
+    → bit x (level rows y (suc k)) ≡ 1 → nodes ≡ replicate n 0 → marks ≡ replicate n 0
+    → Writing w masks n rows x y k 0 x (set nodes 0 x) marks
+writing-begun w masks n rows x y k l h p q =
     let e : k - 0 ≡ k = omega arith in
     record {
       reach = rw e (level-sound rows y (suc k) x h);
       front = [];
       long = refl;
-      nodes-are = ap (λ (t : List ℕ). set t 0 x) (sym (none-filled n)) ∙ filled-more n [] 0 x refl l;
-      marks-are = sym (none-filled n);
+      nodes-are = ap (λ (t : List ℕ). set t 0 x) (p ∙ sym (none-filled n)) ∙ filled-more n [] 0 x refl l;
+      marks-are = q ∙ sym (none-filled n);
       whole = rw e refl;
     }
 
@@ -135,7 +136,7 @@ module _
 -- and the mark of the last link
 pub writing-done : {w : ℕ} {masks rows : List ℕ} {x y k i z : ℕ} {nodes marks : List ℕ} → Writing w masks mostNodes rows x y k i z nodes marks
     → i ≡ k → k < mostNodes → {v : ℕ} → v ≡ markInto w masks y
-    → record { nodes = nodes; marks = set marks k v; len = k + 1 } ≡ trailOf w masks (x ∷ leastBetween rows y k x) y
+    → trail nodes (set marks k v) (k + 1) ≡ trailOf w masks (x ∷ leastBetween rows y k x) y
 unfolding trailOf
 writing-done {w} {masks} {rows} {x} {y} {k} {i} {z} {nodes} {marks} t e fits {v} mark =
     let ws = leastBetween rows y k x in

@@ -13,7 +13,7 @@ use Rattle.grammar.specs.Refusal.{allowed}
 use Rattle.graph.specs.Parts.{mostNodes}
 use Rattle.graph.specs.Search.{between, leastBetween, pathOf}
 use Rattle.graph.specs.Marks.{edgeInto, markOf, markInto, targetsOf, marksOf}
-use Rattle.graph.specs.Trails.{filledUp, trailOf, circleTrail, noTrail}
+use Rattle.graph.specs.Trails.{trail, filledUp, trailOf, circleTrail}
 use Rattle.graph.proofs.Marks.{length-marks}
 
 -- ---- filled up with zeros
@@ -47,9 +47,11 @@ filled-at (x ∷ xs) n (suc i) = filled-at xs n i
 
 -- ---- what is handed over
 
-pub trail-none : (w : ℕ) (masks : List ℕ) (y : ℕ) {c : List ℕ} → c ≡ [] → noTrail ≡ trailOf w masks c y
+-- nothing, in places that are all 0
+pub trail-none : (w : ℕ) (masks : List ℕ) (y : ℕ) {nodes marks c : List ℕ} → nodes ≡ replicate mostNodes 0 → marks ≡ replicate mostNodes 0 → c ≡ []
+    → trail nodes marks 0 ≡ trailOf w masks c y
 unfolding trailOf
-trail-none w masks y e = rw e
+trail-none w masks y p q e = rw (p, q, e)
 
 -- it holds the path and its marks again
 module _ (w : ℕ) (masks c : List ℕ) (y : ℕ) where
@@ -85,5 +87,5 @@ marks-filled w masks n (t ∷ ts) =
 pub trail-filled : (w : ℕ) (masks : List ℕ) (n : ℕ) (c : List ℕ) (y : ℕ) → trailOf w (filledUp n masks) c y ≡ trailOf w masks c y
 unfolding trailOf
 trail-filled w masks n c y =
-    ap (λ (ms : List ℕ). record { nodes = filledUp mostNodes c; marks = filledUp mostNodes ms; len = length c })
+    ap (λ (ms : List ℕ). trail (filledUp mostNodes c) (filledUp mostNodes ms) (length c))
     (marks-filled w masks n (targetsOf c y))
