@@ -1,10 +1,10 @@
 // The shortest and least path from one node to another and the shortest and least circle, with the marks of their links, in a graph as rows of
-// bits. Besides the rows only a few numbers are held, and what is found.
+// bits. Besides the rows only a few numbers are held; what is found is left in two lent arrays.
 ghost use mathlib.Core.Path.{_≡_};
 ghost use mathlib.Core.List.{_∷_};
 ghost use Prim.Native.Nat.{suc, _*_, _/_, _%_, _^_, _<_, _≤_};
 ghost use lib.Bits.{bitAnd};
-ghost use lib.ListN.{length, getD, take};
+ghost use lib.ListN.{length, getD, take, replicate};
 ghost use Rattle.numbers.specs.Number.{bit};
 ghost use Rattle.grammar.specs.Table.{attributes};
 ghost use Rattle.graph.specs.Rows.{join};
@@ -21,7 +21,7 @@ ghost use Rattle.graph.specs.Search.{
   circleOf,
 };
 ghost use Rattle.graph.specs.Marks.{edgeInto, markInto};
-ghost use Rattle.graph.specs.Trails.{trailOf, circleTrail, noTrail};
+ghost use Rattle.graph.specs.Trails.{trail, trailOf, circleTrail, noTrail};
 use grammar::ATTRIBUTES;
 use grammar::NODES;
 use grammar::OCCURRENCES;
@@ -99,37 +99,46 @@ fn next_node(rows: &[u64], m: usize, y: usize, k: usize, z: usize) -> usize
 }
 
 // 1 where the attribute of a node is inherited, by the masks of the occurrences, and 0 where it is not.
-fn inherited(masks: [u16; OCCURRENCES], target: usize) -> u16
-    ensures { λ r. ⌜ r ≡ bit (target % attributes) (getD masks (target / attributes) 0) ⌝ }
+fn inherited(masks: &[u16], target: usize) -> u16
+    ensures { λ r. ⌜ r ≡ bit (target % attributes) (getD (now (masks .entry)) (target / attributes) 0) ⌝ }
 {
     let occurrence = target / ATTRIBUTES;
-    if OCCURRENCES <= occurrence {
+    if masks.len() <= occurrence {
         return 0;
     }
     (masks[occurrence] >> (target % ATTRIBUTES)) & 1
 }
 
 // Whether a link to the node is an edge of the production.
-fn edge_into(masks: [u16; OCCURRENCES], target: usize) -> bool
-    ensures { λ r. ⌜ r ≡ edgeInto attributes masks target ⌝ }
+fn edge_into(masks: &[u16; OCCURRENCES], target: usize) -> bool
+    ensures { λ r. ⌜ r ≡ edgeInto attributes (now (masks .entry)) target ⌝ }
 {
     let i = inherited(masks, target);
     if target < ATTRIBUTES { i == 0 } else { i == 1 }
 }
 
-fn mark(masks: [u16; OCCURRENCES], target: usize) -> u8
-    ensures { λ r. ⌜ r ≡ markInto attributes masks target ⌝ }
+fn mark(masks: &[u16; OCCURRENCES], target: usize) -> u8
+    ensures { λ r. ⌜ r ≡ markInto attributes (now (masks .entry)) target ⌝ }
 {
     if edge_into(masks, target) { 1 } else { 0 }
 }
 
-// The least path of k + 1 links from x to y, where there is one.
-fn written(rows: &[u64], m: usize, masks: [u16; OCCURRENCES], x: usize, y: usize, k: usize) -> Trail
-    requires { ⌜ (m ≤ length (now rows)) × (m ≤ mostNodes) × (x < m) × (y < m) × (k < m) × (bit x (level (take m (now rows)) y (suc k)) ≡ 1) ⌝ }
-    ensures { λ r. ⌜ r ≡ trailOf attributes masks (x ∷ leastBetween (take m (now (rows .entry))) y k x) y ⌝ }
+// The least path of k + 1 links from x to y, where there is one, in arrays that are 0 so far.
+fn written(
+    rows: &[u64],
+    m: usize,
+    masks: &[u16; OCCURRENCES],
+    x: usize,
+    y: usize,
+    k: usize,
+    nodes: &mut [u8; NODES],
+    marks: &mut [u8; NODES],
+) -> u8
+    requires { ⌜ (m ≤ length (now rows)) × (m ≤ mostNodes) × (x < m) × (y < m) × (k < m) × (bit x (level (take m (now rows)) y (suc k)) ≡ 1)
+        × (now nodes ≡ replicate mostNodes 0) × (now marks ≡ replicate mostNodes 0) ⌝ }
+    ensures { λ r. ⌜ trail (now (nodes .exit)) (now (marks .exit)) r
+        ≡ trailOf attributes (now (masks .entry)) (x ∷ leastBetween (take m (now (rows .entry))) y k x) y ⌝ }
 {
-    let mut nodes = [0u8; NODES];
-    let mut marks = [0u8; NODES];
     nodes[0] = x as u8;
     let mut z = x;
     for i in 0..k {
@@ -139,11 +148,7 @@ fn written(rows: &[u64], m: usize, masks: [u16; OCCURRENCES], x: usize, y: usize
         z = next;
     }
     marks[k] = mark(masks, y);
-    Trail {
-        nodes,
-        marks,
-        len: (k + 1) as u8,
-    }
+    (k + 1) as u8
 }
 
 // Where there is none.
@@ -157,44 +162,75 @@ pub fn no_trail() -> Trail
     }
 }
 
-// The path among m nodes.
-fn path_among(rows: &[u64], m: usize, masks: [u16; OCCURRENCES], x: usize, y: usize) -> Trail
-    requires { ⌜ (m ≤ length (now rows)) × (m ≤ mostNodes) × (x < m) × (y < m) ⌝ }
-    ensures { λ r. ⌜ r ≡ trailOf attributes masks (pathOf (take m (now (rows .entry))) x y) y ⌝ }
+// The path among m nodes, in arrays that are 0 so far.
+fn path_among(
+    rows: &[u64],
+    m: usize,
+    masks: &[u16; OCCURRENCES],
+    x: usize,
+    y: usize,
+    nodes: &mut [u8; NODES],
+    marks: &mut [u8; NODES],
+) -> u8
+    requires { ⌜ (m ≤ length (now rows)) × (m ≤ mostNodes) × (x < m) × (y < m)
+        × (now nodes ≡ replicate mostNodes 0) × (now marks ≡ replicate mostNodes 0) ⌝ }
+    ensures { λ r. ⌜ trail (now (nodes .exit)) (now (marks .exit)) r
+        ≡ trailOf attributes (now (masks .entry)) (pathOf (take m (now (rows .entry))) x y) y ⌝ }
 {
     let k = nodes_between(rows, m, x, y);
     if k < m {
-        return written(rows, m, masks, x, y, k);
+        return written(rows, m, masks, x, y, k, nodes, marks);
     }
-    no_trail()
+    0
 }
 
-fn path_in(rows: &[u64], occurrences: usize, masks: [u16; OCCURRENCES], x: usize, y: usize) -> Trail
-    requires { ⌜ length (now rows) ≡ mostNodes ⌝ }
-    ensures { λ r. ⌜ r ≡ trailOf attributes masks (pathOf (take (attributes * occurrences) (now (rows .entry))) x y) y ⌝ }
+fn clear(bytes: &mut [u8; NODES])
+    ensures { λ _. ⌜ now (bytes .exit) ≡ replicate mostNodes 0 ⌝ }
 {
+    *bytes = [0u8; NODES];
+}
+
+fn path_in(
+    rows: &[u64],
+    occurrences: usize,
+    masks: &[u16; OCCURRENCES],
+    x: usize,
+    y: usize,
+    nodes: &mut [u8; NODES],
+    marks: &mut [u8; NODES],
+) -> u8
+    requires { ⌜ length (now rows) ≡ mostNodes ⌝ }
+    ensures { λ r. ⌜ trail (now (nodes .exit)) (now (marks .exit)) r
+        ≡ trailOf attributes (now (masks .entry)) (pathOf (take (attributes * occurrences) (now (rows .entry))) x y) y ⌝ }
+{
+    clear(nodes);
+    clear(marks);
     let m = ATTRIBUTES * numbers::smaller(occurrences, OCCURRENCES);
     if m <= x {
-        return no_trail();
+        return 0;
     }
     if m <= y {
-        return no_trail();
+        return 0;
     }
-    path_among(rows, m, masks, x, y)
+    path_among(rows, m, masks, x, y, nodes, marks)
 }
 
-// The shortest path of one or more links from x to y among the nodes of the first occurrences, and of these the least. The mask of each
-// occurrence says which attributes are inherited, and so what each link is.
+// The shortest path of one or more links from x to y among the nodes of the first occurrences, and of these the least: how many nodes it
+// leaves, these in the one array, and the marks of its links in the other. The places beyond are 0, and all are where there is no path. The
+// mask of each occurrence says which attributes are inherited, and so what each link is.
 pub fn path(
     rows: &[u64; NODES],
     occurrences: usize,
-    masks: [u16; OCCURRENCES],
+    masks: &[u16; OCCURRENCES],
     x: usize,
     y: usize,
-) -> Trail
-    ensures { λ r. ⌜ r ≡ trailOf attributes masks (pathOf (take (attributes * occurrences) (now (rows .entry))) x y) y ⌝ }
+    nodes: &mut [u8; NODES],
+    marks: &mut [u8; NODES],
+) -> u8
+    ensures { λ r. ⌜ trail (now (nodes .exit)) (now (marks .exit)) r
+        ≡ trailOf attributes (now (masks .entry)) (pathOf (take (attributes * occurrences) (now (rows .entry))) x y) y ⌝ }
 {
-    path_in(rows, occurrences, masks, x, y)
+    path_in(rows, occurrences, masks, x, y, nodes, marks)
 }
 
 // s, if it has fewer nodes between it and itself than the one found so far.
@@ -228,19 +264,33 @@ fn start_among(rows: &[u64], m: usize) -> Nearest
     b
 }
 
-fn circle_in(rows: &[u64], occurrences: usize, masks: [u16; OCCURRENCES]) -> Trail
+fn circle_in(
+    rows: &[u64],
+    occurrences: usize,
+    masks: &[u16; OCCURRENCES],
+    nodes: &mut [u8; NODES],
+    marks: &mut [u8; NODES],
+) -> u8
     requires { ⌜ length (now rows) ≡ mostNodes ⌝ }
-    ensures { λ r. ⌜ r ≡ circleTrail attributes masks (circleOf (take (attributes * occurrences) (now (rows .entry)))) ⌝ }
+    ensures { λ r. ⌜ trail (now (nodes .exit)) (now (marks .exit)) r
+        ≡ circleTrail attributes (now (masks .entry)) (circleOf (take (attributes * occurrences) (now (rows .entry)))) ⌝ }
 {
     let m = ATTRIBUTES * numbers::smaller(occurrences, OCCURRENCES);
     let b = start_among(rows, m);
     let s = b.start;
-    path_in(rows, occurrences, masks, s, s)
+    path_in(rows, occurrences, masks, s, s, nodes, marks)
 }
 
-// The shortest circle among the nodes of the first occurrences, written from its smallest node, and of these the least.
-pub fn circle(rows: &[u64; NODES], occurrences: usize, masks: [u16; OCCURRENCES]) -> Trail
-    ensures { λ r. ⌜ r ≡ circleTrail attributes masks (circleOf (take (attributes * occurrences) (now (rows .entry)))) ⌝ }
+// The shortest circle among the nodes of the first occurrences, written from its smallest node, and of these the least; left as a path is.
+pub fn circle(
+    rows: &[u64; NODES],
+    occurrences: usize,
+    masks: &[u16; OCCURRENCES],
+    nodes: &mut [u8; NODES],
+    marks: &mut [u8; NODES],
+) -> u8
+    ensures { λ r. ⌜ trail (now (nodes .exit)) (now (marks .exit)) r
+        ≡ circleTrail attributes (now (masks .entry)) (circleOf (take (attributes * occurrences) (now (rows .entry)))) ⌝ }
 {
-    circle_in(rows, occurrences, masks)
+    circle_in(rows, occurrences, masks, nodes, marks)
 }

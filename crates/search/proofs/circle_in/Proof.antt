@@ -28,16 +28,17 @@ path-in-requires c κs = search needs
 returns : tie.Need-returns
 unfolding circleOf
 returns c =
-    let d = c .before .before in
+    let d = c .before .before .before .before in
     let a = d .before .before .args in
     let m = 8 * d .smaller .result in
     let rows = take (8 * a .occurrences) (a .rows .now) in
     let e = take-clipped (8 * a .occurrences) m (a .rows .now) (omega arith) in
     let n = length-take-le m (a .rows .now) (omega arith) in
-    let b = c .before .start-among .ensures ∙ ap₂ nearestTo (sym n ∙ ap length e) e in
+    let start = c .before .before .before .start-among in
+    let b = start .ensures ∙ ap₂ nearestTo (sym n ∙ ap length e) e in
     c .path-in .ensures
-    ∙ trail-back 8 (a .masks) rows (c .before .start-among .result .start)
-    ∙ ap (λ (b : Nearest). circleTrail 8 (a .masks) (pathOf rows (b .start) (b .start))) b
+    ∙ trail-back 8 (a .masks .now) rows (start .result .start)
+    ∙ ap (λ (b : Nearest). circleTrail 8 (a .masks .now) (pathOf rows (b .start) (b .start))) b
 
 pub circle-in-spec : {M : Type 1} → statement M
 circle-in-spec =

@@ -16,13 +16,13 @@ returns : tie.Need-returns
 unfolding edgeInto
 returns c =
     let d = c .before in
-    ap (λ (i : ℕ). eqb i 0) (d .inherited .ensures) ∙ allowed-left (d .before .args .target / 8) _ (omega arith)
+    ap (λ (i : ℕ). eqb i 0) (d .inherited .ensures) ∙ allowed-left (d .before .before .args .target / 8) _ (omega arith)
 
 returns-2 : tie.Need-returns-2
 unfolding edgeInto
 returns-2 c =
     let d = c .before in
-    ap (λ (i : ℕ). eqb i 1) (d .inherited .ensures) ∙ allowed-right (d .before .args .target / 8) _ (λ e. omega (arith, e))
+    ap (λ (i : ℕ). eqb i 1) (d .inherited .ensures) ∙ allowed-right (d .before .before .args .target / 8) _ (λ e. omega (arith, e))
 
 pub edge-into-spec : {M : Type 1} → statement M
 edge-into-spec = tie.close (tie.spec inherited-requires returns returns-2)

@@ -19,13 +19,15 @@ abbrev μ-loop : tie.MeasureT-loop
 cast-nodes : tie.Need-cast-nodes Inv-loop μ-loop
 cast-nodes c = search needs
 
-array-write-nodes : tie.Need-array-write-nodes Inv-loop μ-loop
-array-write-nodes c = search needs
+element-write-nodes : tie.Need-element-write-nodes Inv-loop μ-loop
+element-write-nodes c = search needs
 
 loop-holds : tie.Need-loop-holds Inv-loop μ-loop
 loop-holds c =
     let a = c .before .args in
-    (omega arith, omega arith, writing-begun 8 (a .masks) 64 (take (a .m) (a .rows .now)) (a .x) (a .y) (a .k) (omega arith) (c .before .pre .5))
+    let pre = c .before .pre in
+    let begun = writing-begun 8 (a .masks .now) 64 (take (a .m) (a .rows .now)) (a .x) (a .y) (a .k) (omega arith) (pre .5) (pre .6) (pre .7) in
+    (omega arith, omega arith, begun)
 
 sub-next-node : tie.Need-sub-next-node Inv-loop μ-loop
 sub-next-node c = search needs
@@ -44,14 +46,14 @@ cast-nodes-2 c =
 add-nodes : tie.Need-add-nodes Inv-loop μ-loop
 add-nodes c = search needs
 
-array-write-nodes-2 : tie.Need-array-write-nodes-2 Inv-loop μ-loop
-array-write-nodes-2 c = search needs
+element-write-nodes-2 : tie.Need-element-write-nodes-2 Inv-loop μ-loop
+element-write-nodes-2 c = search needs
 
 mark-requires : tie.Need-mark-requires Inv-loop μ-loop
 mark-requires c κs = search needs
 
-array-write-marks : tie.Need-array-write-marks Inv-loop μ-loop
-array-write-marks c = search needs
+element-write-marks : tie.Need-element-write-marks Inv-loop μ-loop
+element-write-marks c = search needs
 
 add-i : tie.Need-add-i Inv-loop μ-loop
 add-i c = search needs
@@ -72,14 +74,14 @@ loop-again c =
 mark-requires-2 : tie.Need-mark-requires-2 Inv-loop μ-loop
 mark-requires-2 c κs = search needs
 
-array-write-marks-2 : tie.Need-array-write-marks-2 Inv-loop μ-loop
-array-write-marks-2 c = search needs
+element-write-marks-2 : tie.Need-element-write-marks-2 Inv-loop μ-loop
+element-write-marks-2 c = search needs
 
-add-t26 : tie.Need-add-t26 Inv-loop μ-loop
-add-t26 c = search needs
+add-result : tie.Need-add-result Inv-loop μ-loop
+add-result c = search needs
 
-cast-t12 : tie.Need-cast-t12 Inv-loop μ-loop
-cast-t12 c = search needs
+cast-result : tie.Need-cast-result Inv-loop μ-loop
+cast-result c = search needs
 
 returns : tie.Need-returns Inv-loop μ-loop
 returns c =
@@ -93,20 +95,20 @@ written-spec =
     Inv-loop
     μ-loop
     cast-nodes
-    array-write-nodes
+    element-write-nodes
     loop-holds
     sub-next-node
     next-node-requires
     cast-nodes-2
     add-nodes
-    array-write-nodes-2
+    element-write-nodes-2
     mark-requires
-    array-write-marks
+    element-write-marks
     add-i
     loop-less
     loop-again
     mark-requires-2
-    array-write-marks-2
-    add-t26
-    cast-t12
+    element-write-marks-2
+    add-result
+    cast-result
     returns)
