@@ -6,12 +6,12 @@ ghost use lib.ListN.{getD, take, replicate};
 ghost use Rattle.numbers.specs.Lists.{upFrom};
 ghost use Rattle.grammar.specs.Grammar.{symbol, symbolAt, production};
 ghost use Rattle.grammar.specs.Table.{attributes, grammarOf};
+ghost use Rattle.graph.specs.Trails.{trail};
 ghost use Rattle.circles.specs.Ring.{masksIn, rowsIn, ringIn};
 use grammar::NODES;
 use grammar::OCCURRENCES;
 use grammar::Production;
 use grammar::SLOTS;
-use graph::Trail;
 use numbers::smaller;
 use numbers::wide;
 
@@ -61,13 +61,21 @@ fn rows_of(
     rows
 }
 
-// The circle of the compound graph of the production `number` over the entries in the root's slots, which have these graphs.
-pub fn circle_of(table: &[u8], graphs: &[u64], number: usize, root: [u16; SLOTS]) -> Trail
-    ensures { λ r. ⌜ r ≡ ringIn (now (table .entry)) (now (graphs .entry)) number root ⌝ }
+// The circle of the compound graph of the production `number` over the entries in the root's slots, which have these graphs: how many nodes
+// it has, and in the lent arrays these and the marks of its links.
+pub fn circle_of(
+    table: &[u8],
+    graphs: &[u64],
+    number: usize,
+    root: [u16; SLOTS],
+    nodes: &mut [u8; NODES],
+    marks: &mut [u8; NODES],
+) -> u8
+    ensures { λ r. ⌜ trail (now (nodes .exit)) (now (marks .exit)) r ≡ ringIn (now (table .entry)) (now (graphs .entry)) number root ⌝ }
 {
     let production = tables::production_of(table, number);
     let rights = smaller(wide(production.n), SLOTS);
     let rows = rows_of(table, graphs, number, rights, root);
     let masks = masks_of(table, production);
-    search::circle(&rows, rights + 1, masks)
+    search::circle(&rows, rights + 1, &masks, nodes, marks)
 }

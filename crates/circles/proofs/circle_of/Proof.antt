@@ -47,12 +47,13 @@ circle-requires c κs = search needs
 
 returns : tie.Need-returns
 returns c =
-    let small = c .before .before .before .before in
+    let masks = c .before .before .before .before .before in
+    let small = masks .before .before in
     let s = small .before .before .before .before .before in
     ring-made (s .args .table .now) (s .args .graphs .now) (s .args .number) (small .smaller .result) _ (s .args .root) _ _ _ _
     (small .before .before .production-of .ensures)
     (small .smaller .ensures ∙ ap (λ (n : ℕ). min n 7) (small .before .wide .ensures))
-    refl (c .before .before .before .rows-of .ensures) (c .before .before .masks-of .ensures) (c .circle .ensures)
+    refl (masks .before .rows-of .ensures) (masks .masks-of .ensures) (c .circle .ensures)
 
 pub circle-of-spec : {M : Type 1} → statement M
 circle-of-spec =
