@@ -12,7 +12,8 @@ use Rattle.flats.proofs.flat_report.Reads as report-reads
 pub one-reading-flat-check : OneOutcome 1 check-kinds.ps check-kinds.r check-reads.Post (λ κs r s. now (s .1 .0))
 one-reading-flat-check κs a x y s t p q = p ∙ sym q
 
-pub one-reading-flat-trail : OneOutcome 1 trail-kinds.ps trail-kinds.r trail-reads.Post (λ κs r s. now (s .1 .0))
+-- the parameters at exit: nodes, marks, len, out
+pub one-reading-flat-trail : OneOutcome 3 trail-kinds.ps trail-kinds.r trail-reads.Post (λ κs r s. now (s .1 .1 .1 .0))
 one-reading-flat-trail κs a x y s t p q = p ∙ sym q
 
 pub one-reading-flat-report : OneOutcome 1 report-kinds.ps report-kinds.r report-reads.Post (λ κs r s. now (s .1 .0))

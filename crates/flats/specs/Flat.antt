@@ -1,7 +1,8 @@
 -- What the check says as two numbers, a path or a circle as 129, a report as 141. Assumes nothing.
 use mathlib.Core.List.{List, [], _∷_, _++_}
-use Prim.Native.Nat.{ℕ, _+_, _*_}
-use lib.ListN.{getD}
+use mathlib.Core.Path.{_≡_}
+use Prim.Native.Nat.{ℕ, suc, _+_, _*_}
+use lib.ListN.{length, getD, take, drop}
 use Rattle.grammar.specs.declared.Broken.the-variants.{Rule, Record}
 use Rattle.grammar.specs.declared.Checked.{Checked}
 use Rattle.grammar.specs.declared.Checked.the-variants.{Good, Refused}
@@ -22,6 +23,12 @@ flatTrail t = t .len ∷ t .nodes ++ t .marks
 
 abbrev pub trailNumbers : ℕ
 trailNumbers = 1 + 2 * mostNodes
+
+-- after x the first i nodes, and behind all places for nodes the first i marks
+pub record Begun (ns ms : List ℕ) (x i : ℕ) (out : List ℕ) : Type 0 where
+  pub long : length out ≡ trailNumbers
+  pub nodes : take (suc i) out ≡ x ∷ take i ns
+  pub marks : take i (drop (1 + mostNodes) out) ≡ take i ms
 
 -- the answer's number and its value (the root's production, or the first bad record), closures, entries and passes, the root's seven entry
 -- numbers, and the circle

@@ -1,14 +1,16 @@
 // What Rust and C are given as numbers: what a check says, a path or a circle, and a report.
 ghost use mathlib.Core.Path.{_≡_};
 ghost use mathlib.Core.List.{_++_};
-ghost use lib.ListN.{length, take, drop};
+ghost use Prim.Native.Nat.{_≤_};
+ghost use lib.ListN.{length, getD, take, drop};
+ghost use Rattle.graph.specs.Parts.{mostNodes};
+ghost use Rattle.graph.specs.Trails.{trail};
 ghost use Rattle.rules.specs.Passes.{numberOf, valueOf};
-ghost use Rattle.flats.specs.Flat.{flatCheck, trailNumbers, flatTrail, reportNumbers, flat};
+ghost use Rattle.flats.specs.Flat.{flatCheck, trailNumbers, flatTrail, Begun, reportNumbers, flat};
 use grammar::Broken;
 use grammar::Checked;
 use grammar::NODES;
 use grammar::SLOTS;
-use graph::Trail;
 use rules::Answer;
 use rules::Report;
 
@@ -82,24 +84,34 @@ fn number(x: u8) -> u32
     x as u32
 }
 
-fn trail_in(trail: Trail, out: &mut [u32])
-    requires { ⌜ length (now out) ≡ trailNumbers ⌝ }
-    ensures { λ _. ⌜ now (out .exit) ≡ flatTrail trail ⌝ }
+// The nodes and the marks of the links from `from` on and below `to`, where those before stand already.
+fn links_in(nodes: &[u8], marks: &[u8], out: &mut [u32], from: usize, to: usize)
+    requires { ⌜ (length (now nodes) ≡ mostNodes) × (length (now marks) ≡ mostNodes) × (from ≤ to) × (to ≤ mostNodes)
+        × Begun (now nodes) (now marks) (getD (now out) 0 0) from (now out) ⌝ }
+    ensures { λ _. ⌜ Begun (now (nodes .entry)) (now (marks .entry)) (getD (now (out .entry)) 0 0) to (now (out .exit)) ⌝ }
 {
-    let nodes = trail.nodes;
-    let marks = trail.marks;
-    out[0] = number(trail.len);
-    for i in 0..NODES {
+    for i in from..to {
         out[1 + i] = number(nodes[i]);
         out[1 + NODES + i] = number(marks[i]);
     }
 }
 
-// A path or a circle in numbers, left in the lent array.
-pub fn flat_trail(trail: Trail, out: &mut [u32; TRAIL])
-    ensures { λ _. ⌜ now (out .exit) ≡ flatTrail trail ⌝ }
+// In two parts, since a loop over a constant count is written out at length, which takes 256 bytes more of the stack.
+fn trail_in(nodes: &[u8; NODES], marks: &[u8; NODES], len: u8, out: &mut [u32])
+    requires { ⌜ length (now out) ≡ trailNumbers ⌝ }
+    ensures { λ _. ⌜ now (out .exit) ≡ flatTrail (trail (now (nodes .entry)) (now (marks .entry)) len) ⌝ }
 {
-    trail_in(trail, out);
+    out[0] = number(len);
+    let n = numbers::smaller(len as usize, NODES);
+    links_in(nodes, marks, out, 0, n);
+    links_in(nodes, marks, out, n, NODES);
+}
+
+// A path or a circle in numbers, left in the lent array.
+pub fn flat_trail(nodes: &[u8; NODES], marks: &[u8; NODES], len: u8, out: &mut [u32; TRAIL])
+    ensures { λ _. ⌜ now (out .exit) ≡ flatTrail (trail (now (nodes .entry)) (now (marks .entry)) len) ⌝ }
+{
+    trail_in(nodes, marks, len, out);
 }
 
 // The numbers of a report before the root's entry numbers.
@@ -130,9 +142,11 @@ fn report_in(report: Report, out: &mut [u32])
 {
     let kids = report.root;
     let circle = report.circle;
+    let nodes = circle.nodes;
+    let marks = circle.marks;
     first_in(report, out);
     kids_in(kids, &mut out[KIDS..CIRCLE]);
-    trail_in(circle, &mut out[CIRCLE..]);
+    trail_in(&nodes, &marks, circle.len, &mut out[CIRCLE..]);
 }
 
 // A report in numbers, left in the lent array, its circle after the first twelve.

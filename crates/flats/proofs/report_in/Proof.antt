@@ -34,6 +34,10 @@ seven xs l =
 abbrev with-kids : List ℕ → List ℕ → List ℕ
 with-kids xs ys = take 5 xs ++ (ys ++ drop 7 (drop 5 xs))
 
+-- the root has seven slots
+slots : (s : tie.Start) → length (s .args .report .root) ≡ 7
+slots s = search needs
+
 first-in-requires : tie.Need-first-in-requires
 first-in-requires c κs = search needs
 
@@ -66,14 +70,17 @@ same-length c = search needs
 
 returns : tie.Need-returns
 returns c =
-    let report = c .before .before .before .before .before .before .before .before .before .before .before .before .before .before .before .args .report in
-    let first = c .before .before .before .before .before .before .before .before .before .before .first-in in
-    let kids = c .before .before .before .before .before .before .kids-in in
     let circle = c .before .before .trail-in in
-    ended (with-kids (first .last .1 .0) (kids .last .1 .0)) (circle .last .1 .0)
-    ∙ ap₂ (λ (xs ys : List ℕ). take 12 (with-kids xs ys) ++ circle .last .1 .0)
+    let d = c .before .before .before .before .before .before .before .before in
+    let kids = d .kids-in in
+    let e = d .before .before .before .before in
+    let first = e .first-in in
+    let s = e .before .before .before .before .before .before .before in
+    let report = s .args .report in
+    ended (with-kids (first .last .1 .0) (kids .last .1 .0)) (circle .last .1 .1 .1 .0)
+    ∙ ap₂ (λ (xs ys : List ℕ). take 12 (with-kids xs ys) ++ circle .last .1 .1 .1 .0)
     (first .ensures)
-    (kids .ensures ∙ seven (report .root) (search needs))
+    (kids .ensures ∙ seven (report .root) (slots s))
     ∙ ap (λ (ys : List ℕ). take 12 (flat report) ++ ys) (circle .ensures)
 
 pub report-in-spec : {M : Type 1} → statement M
