@@ -8,6 +8,7 @@ ghost use Rattle.grammar.specs.declared.Checked.the-variants.{Good};
 ghost use Rattle.grammar.specs.Grammar.{production};
 ghost use Rattle.grammar.specs.Table.{P, grammarOf};
 ghost use Rattle.grammar.specs.Refusal.{refusal};
+ghost use Rattle.graph.specs.Trails.{trail, noTrail};
 ghost use Rattle.rules.specs.Passes as stated;
 ghost use Rattle.rules.specs.Test.{systemIn, reportWith};
 ghost use Rattle.passes.specs.Slices.{lent, atEntry, atExit, roomOf, Tells, Tested, entriesTo};
@@ -294,15 +295,22 @@ fn passes(
     }
 }
 
-// Where the answer is circular, the circle of the root, whose entries have these graphs.
-fn circle_said(table: &[u8], graphs: &[u64], root: [u16; SLOTS], answer: Answer) -> Trail
-    requires { ⌜ refusal (now table) ≡ Good ⌝ }
-    ensures { λ r. ⌜ r ≡ circleOver (now (table .entry)) (now (graphs .entry)) root answer ⌝ }
+// Where the answer is circular, the circle of the root, whose entries have these graphs, in arrays that are 0 so far.
+fn circle_said(
+    table: &[u8],
+    graphs: &[u64],
+    root: [u16; SLOTS],
+    answer: Answer,
+    nodes: &mut [u8; NODES],
+    marks: &mut [u8; NODES],
+) -> u8
+    requires { ⌜ (refusal (now table) ≡ Good) × (trail (now nodes) (now marks) 0 ≡ noTrail) ⌝ }
+    ensures { λ r. ⌜ trail (now (nodes .exit)) (now (marks .exit)) r ≡ circleOver (now (table .entry)) (now (graphs .entry)) root answer ⌝ }
 {
     let Answer::Circular(p) = answer else {
-        return search::no_trail();
+        return 0;
     };
-    circles::circle_of(table, graphs, numbers::wide(p), root)
+    circles::circle_of(table, graphs, numbers::wide(p), root, nodes, marks)
 }
 
 // The report with the circle. Only the graphs of stored entries are read.
@@ -314,7 +322,17 @@ fn with_circle(table: &[u8], graphs: &[u64], report: Report) -> Report
     let stored = numbers::wide(report.entries);
     let answer = report.answer;
     let root = report.root;
-    let circle = circle_said(table, &graphs[..stored], root, answer);
+    let mut nodes = [0u8; NODES];
+    let mut marks = [0u8; NODES];
+    let len = circle_said(
+        table,
+        &graphs[..stored],
+        root,
+        answer,
+        &mut nodes,
+        &mut marks,
+    );
+    let circle = Trail { nodes, marks, len };
     Report {
         answer,
         closures: report.closures,

@@ -13,13 +13,11 @@ use Rattle.passes.proofs.circle_said.Tie as tie
 enum-known-answer : tie.Need-enum-known-answer
 enum-known-answer c = search needs
 
-no-trail-requires : tie.Need-no-trail-requires
-no-trail-requires c κs = search needs
-
 returns : tie.Need-returns
 returns c =
-    let a = c .before .before .before .before .args in
-    c .no-trail .ensures ∙ none-said (a .table .now) (a .graphs .now) (a .root) (a .answer) (c .before .match .keys2)
+    let s = c .before .before .before in
+    let a = s .args in
+    s .pre .1 ∙ none-said (a .table .now) (a .graphs .now) (a .root) (a .answer) (c .match .keys2)
 
 wide-requires : tie.Need-wide-requires
 wide-requires c κs = search needs
@@ -29,13 +27,14 @@ circle-of-requires c κs = search needs
 
 returns-2 : tie.Need-returns-2
 returns-2 c =
-    let s = c .before .before .before .before .before .before .before in
+    let w = c .before .before .before in
+    let s = w .before .before .before .before .before .before in
     let bs = s .args .table .now in
     c .circle-of .ensures
-    ∙ ap (λ (p : ℕ). ringIn bs (s .args .graphs .now) p (s .args .root)) (c .before .wide .ensures)
-    ∙ one-said bs (s .pre) (s .args .graphs .now) (s .args .root) _ (omega arith)
-    ∙ ap (circleOver bs (s .args .graphs .now) (s .args .root)) (sym (c .before .before .before .answer .given .1))
+    ∙ ap (λ (p : ℕ). ringIn bs (s .args .graphs .now) p (s .args .root)) (w .wide .ensures)
+    ∙ one-said bs (s .pre .0) (s .args .graphs .now) (s .args .root) _ (omega arith)
+    ∙ ap (circleOver bs (s .args .graphs .now) (s .args .root)) (sym (w .before .before .answer .given .1))
 
 pub circle-said-spec : {M : Type 1} → statement M
 circle-said-spec =
-    tie.close (tie.spec enum-known-answer no-trail-requires returns wide-requires circle-of-requires returns-2)
+    tie.close (tie.spec enum-known-answer returns wide-requires circle-of-requires returns-2)

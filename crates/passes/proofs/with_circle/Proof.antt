@@ -1,5 +1,5 @@
 -- `passes::with_circle` meets its contract. Assumes nothing.
-use mathlib.Core.Path.{sym, ap, _∙_}
+use mathlib.Core.Path.{refl, sym, ap, _∙_}
 use Prim.Native.Nat.{ℕ, _≤_}
 use native.Mathlib.Omega.{arith}
 use borrow.Author.Needs.{needs}
@@ -20,15 +20,16 @@ slice-aggregate-circle-said c =
     sym (length-take-le (c .before .before .wide .result) (s .args .graphs .now) stored)
 
 circle-said-requires : tie.Need-circle-said-requires
-circle-said-requires c κs = c .before .before .before .before .before .pre .0
+circle-said-requires c κs = (c .before .before .before .before .before .before .before .pre .0, refl)
 
 returns : tie.Need-returns
 returns c =
-    let s = c .before .before .before .before .before .before in
+    let w = c .before .before .before .before .before in
+    let s = w .before .before .before in
     let r = s .args .report in
     ap (λ t. reportWith t r)
     (c .circle-said .ensures
-    ∙ ap (λ (n : ℕ). circleOver (s .args .table .now) (take n (s .args .graphs .now)) (r .root) (r .answer)) (c .before .before .before .wide .ensures))
+    ∙ ap (λ (n : ℕ). circleOver (s .args .table .now) (take n (s .args .graphs .now)) (r .root) (r .answer)) (w .wide .ensures))
 
 pub with-circle-spec : {M : Type 1} → statement M
 with-circle-spec =
