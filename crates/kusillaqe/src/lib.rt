@@ -13,6 +13,7 @@ ghost use Rattle.flats.specs.Flat.{flatCheck, flatTrail};
 ghost use Rattle.kusillaqe.specs.Flat.{TestedFlat};
 use flats::REPORT;
 use flats::TRAIL;
+use grammar::NODES;
 use grammar::OCCURRENCES;
 
 // The check of a table: the number of the rule that it breaks, 0 where it breaks none, and the first bad record.
@@ -89,8 +90,10 @@ pub extern "C" fn kusillaqe_circle(
     ensures { λ _. ⌜ now (circle .exit) ≡ flatTrail
         (circleTrail attributes (now (masks .entry)) (circleOf (take (attributes * occurrences) (now (rows .entry))))) ⌝ }
 {
-    let found = search::circle(rows, occurrences, *masks);
-    flats::flat_trail(found, circle);
+    let mut nodes = [0u8; NODES];
+    let mut marks = [0u8; NODES];
+    let len = search::circle(rows, occurrences, masks, &mut nodes, &mut marks);
+    flats::flat_trail(&nodes, &marks, len, circle);
 }
 
 // The shortest path of one or more links from one of these nodes to another, and of these the least.
@@ -106,8 +109,10 @@ pub extern "C" fn kusillaqe_path(
     ensures { λ _. ⌜ now (path .exit) ≡ flatTrail
         (trailOf attributes (now (masks .entry)) (pathOf (take (attributes * occurrences) (now (rows .entry))) from to) to) ⌝ }
 {
-    let found = search::path(rows, occurrences, *masks, from, to);
-    flats::flat_trail(found, path);
+    let mut nodes = [0u8; NODES];
+    let mut marks = [0u8; NODES];
+    let len = search::path(rows, occurrences, masks, from, to, &mut nodes, &mut marks);
+    flats::flat_trail(&nodes, &marks, len, path);
 }
 
 // The pairs among the nodes of the left symbol.

@@ -12,7 +12,7 @@ flat-trail-requires : tie.Need-flat-trail-requires
 flat-trail-requires c κs = search needs
 
 returns : tie.Need-returns
-returns c = c .flat-trail .ensures ∙ ap flatTrail (c .before .before .circle .ensures)
+returns c = c .flat-trail .ensures ∙ ap flatTrail (c .before .before .before .before .circle .ensures)
 
 pub kusillaqe-circle-spec : {M : Type 1} → statement M
 kusillaqe-circle-spec = tie.close (tie.spec circle-requires flat-trail-requires returns)

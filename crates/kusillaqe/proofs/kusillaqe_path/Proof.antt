@@ -12,7 +12,7 @@ flat-trail-requires : tie.Need-flat-trail-requires
 flat-trail-requires c κs = search needs
 
 returns : tie.Need-returns
-returns c = c .flat-trail .ensures ∙ ap flatTrail (c .before .before .path .ensures)
+returns c = c .flat-trail .ensures ∙ ap flatTrail (c .before .before .before .before .path .ensures)
 
 pub kusillaqe-path-spec : {M : Type 1} → statement M
 kusillaqe-path-spec = tie.close (tie.spec path-requires flat-trail-requires returns)
