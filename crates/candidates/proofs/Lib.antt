@@ -1,0 +1,3 @@
+-- The next candidate, step by step, and one reading.
+pub mod Seeking
+pub mod OneReading

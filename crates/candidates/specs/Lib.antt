@@ -1,0 +1,2 @@
+-- The candidates of a right symbol.
+pub mod Next
