@@ -1,13 +1,10 @@
 // The circle of a root: its compound graph is made once more, since by the end of a test its rows are closed.
 ghost use mathlib.Core.Path.{_≡_};
-ghost use mathlib.Core.List.{map};
-ghost use Prim.Native.Nat.{suc, min, _≤_};
-ghost use lib.ListN.{getD, take, replicate};
-ghost use Rattle.numbers.specs.Lists.{upFrom};
-ghost use Rattle.grammar.specs.Grammar.{symbol, symbolAt, production};
-ghost use Rattle.grammar.specs.Table.{attributes, grammarOf};
+ghost use Prim.Native.Nat.{min, _≤_};
+ghost use Rattle.grammar.specs.Grammar.{symbol, symbolAt};
+ghost use Rattle.grammar.specs.Table.{grammarOf};
 ghost use Rattle.graph.specs.Trails.{trail};
-ghost use Rattle.circles.specs.Ring.{masksIn, rowsIn, ringIn};
+ghost use Rattle.circles.specs.Ring.{masksIn, ringIn};
 use grammar::NODES;
 use grammar::OCCURRENCES;
 use grammar::Production;
@@ -47,20 +44,6 @@ fn masks_of(table: &[u8], production: Production) -> [u16; OCCURRENCES]
     masks
 }
 
-fn rows_of(
-    table: &[u8],
-    graphs: &[u64],
-    number: usize,
-    rights: usize,
-    root: [u16; SLOTS],
-) -> [u64; NODES]
-    ensures { λ r. ⌜ r ≡ rowsIn (now (table .entry)) (now (graphs .entry)) number rights root ⌝ }
-{
-    let mut rows = closures::own_rows(tables::run_of(table, number));
-    closures::place_all(&mut rows, graphs, root, rights);
-    rows
-}
-
 // The circle of the compound graph of the production `number` over the entries in the root's slots, which have these graphs: how many nodes
 // it has, and in the lent arrays these and the marks of its links.
 pub fn circle_of(
@@ -75,7 +58,9 @@ pub fn circle_of(
 {
     let production = tables::production_of(table, number);
     let rights = smaller(wide(production.n), SLOTS);
-    let rows = rows_of(table, graphs, number, rights, root);
+    let mut rows = [0u64; NODES];
+    let run = tables::run_of(table, number);
+    closures::compound(&mut rows, run, graphs, &root, rights);
     let masks = masks_of(table, production);
     search::circle(&rows, rights + 1, &masks, nodes, marks)
 }

@@ -4,6 +4,8 @@ use denote.Ref.{now}
 use Rattle.numbers.proofs.Reading.{OneOutcome, OneResult}
 use Rattle.closures.proofs.close.Kinds as close-kinds
 use Rattle.closures.proofs.close.Reads as close-reads
+use Rattle.closures.proofs.closure.Kinds as closure-kinds
+use Rattle.closures.proofs.closure.Reads as closure-reads
 use Rattle.closures.proofs.has_circle.Kinds as has-circle-kinds
 use Rattle.closures.proofs.has_circle.Reads as has-circle-reads
 use Rattle.closures.proofs.root_graph.Kinds as root-graph-kinds
@@ -18,3 +20,6 @@ one-reading-has-circle κs a x y s t p q = p ∙ sym q
 
 pub one-reading-root-graph : OneResult 1 root-graph-kinds.ps root-graph-kinds.r root-graph-reads.Post
 one-reading-root-graph κs a x y s t p q = p ∙ sym q
+
+pub one-reading-closure : OneResult 3 closure-kinds.ps closure-kinds.r closure-reads.Post
+one-reading-closure κs a x y s t p q i = record { circle = (p .0 ∙ sym (q .0)) i; graph = (p .1 ∙ sym (q .1)) i }

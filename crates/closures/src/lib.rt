@@ -1,17 +1,24 @@
 // The closure of a compound graph, and what is read off it. Who closes a graph finds here too what makes its rows.
 ghost use mathlib.Core.Path.{_≡_};
-ghost use Prim.Native.Nat.{_*_, _<_, _≤_, min};
+ghost use Prim.Native.Nat.{_*_, _+_, _<_, _≤_, min};
 ghost use lib.ListN.{length, take};
 ghost use Rattle.grammar.specs.Table.{attributes};
 ghost use Rattle.graph.specs.Rows.{through, hasCircle, rootGraph};
 ghost use Rattle.graph.specs.Parts.{mostNodes, mapFirst, targetsTo, closedFirst};
+ghost use Rattle.compounds.specs.Combination.{closedIn};
 use compounds::ATTRIBUTE_BITS;
+pub use compounds::compound;
 pub use compounds::own_rows;
 pub use compounds::place;
-pub use compounds::place_all;
 use grammar::ATTRIBUTES;
 use grammar::NODES;
 use grammar::SLOTS;
+
+// What one closure gives.
+pub struct Closed {
+    pub circle: bool,
+    pub graph: u64,
+}
 
 // A row after the step through node k, whose row is `via`.
 fn joined(k: usize, via: u64, row: u64) -> u64
@@ -106,4 +113,26 @@ pub fn root_graph(rows: &[u64; NODES]) -> u64
         graph = graph | ((rows[a] & ATTRIBUTE_BITS) << (ATTRIBUTES * a));
     }
     graph
+}
+
+// How many occurrences a combination has: the left symbol's, and one for each of the first `count` picked entries.
+fn occurrences_of(picked: &[u16], count: usize) -> usize
+    ensures { λ r. ⌜ r ≡ min count (length (now (picked .entry))) + 1 ⌝ }
+{
+    numbers::smaller(count, picked.len()) + 1
+}
+
+// One closure: a combination's compound graph in a table of its own, closed. Of more than seven picked entries the first seven count.
+pub fn closure(run: &[u8], graphs: &[u64], picked: &[u16; SLOTS], count: usize) -> Closed
+    ensures { λ r. ⌜ (r .circle ≡ hasCircle (closedIn (now (run .entry)) (now (graphs .entry)) count (now (picked .entry))))
+        × (r .graph ≡ rootGraph attributes (closedIn (now (run .entry)) (now (graphs .entry)) count (now (picked .entry)))) ⌝ }
+{
+    let occurrences = occurrences_of(picked, count);
+    let mut rows = [0u64; NODES];
+    compound(&mut rows, run, graphs, picked, count);
+    close(&mut rows, occurrences);
+    Closed {
+        circle: has_circle(&rows, occurrences),
+        graph: root_graph(&rows),
+    }
 }

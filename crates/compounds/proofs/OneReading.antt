@@ -6,8 +6,8 @@ use Rattle.compounds.proofs.own_rows.Kinds as own-rows-kinds
 use Rattle.compounds.proofs.own_rows.Reads as own-rows-reads
 use Rattle.compounds.proofs.place.Kinds as place-kinds
 use Rattle.compounds.proofs.place.Reads as place-reads
-use Rattle.compounds.proofs.place_all.Kinds as place-all-kinds
-use Rattle.compounds.proofs.place_all.Reads as place-all-reads
+use Rattle.compounds.proofs.compound.Kinds as compound-kinds
+use Rattle.compounds.proofs.compound.Reads as compound-reads
 
 pub one-reading-own-rows : OneResult 1 own-rows-kinds.ps own-rows-kinds.r own-rows-reads.Post
 one-reading-own-rows κs a x y s t p q = p ∙ sym q
@@ -16,5 +16,5 @@ one-reading-own-rows κs a x y s t p q = p ∙ sym q
 pub one-reading-place : OneOutcome 1 place-kinds.ps place-kinds.r place-reads.Post (λ κs r s. now (s .0))
 one-reading-place κs a x y s t p q = p ∙ sym q
 
-pub one-reading-place-all : OneOutcome 2 place-all-kinds.ps place-all-kinds.r place-all-reads.Post (λ κs r s. now (s .0))
-one-reading-place-all κs a x y s t p q = p ∙ sym q
+pub one-reading-compound : OneOutcome 4 compound-kinds.ps compound-kinds.r compound-reads.Post (λ κs r s. now (s .0))
+one-reading-compound κs a x y s t p q = p ∙ sym q

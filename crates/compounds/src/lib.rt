@@ -1,11 +1,11 @@
 // Compound graphs as rows of bits: a row for each attribute of the eight occurrences that a production has at most, and in it a bit for each.
 ghost use mathlib.Core.Path.{_≡_};
-ghost use mathlib.Core.List.{map};
 ghost use Prim.Native.Nat.{_+_, _<_};
-ghost use lib.ListN.{length, getD, take, replicate};
+ghost use lib.ListN.{length, getD, replicate};
 ghost use Rattle.grammar.specs.Table.{attributes, nodeIn, edgesIn};
 ghost use Rattle.graph.specs.Rows.{node, link, own, placed, placedFrom};
 ghost use Rattle.graph.specs.Parts.{mostNodes};
+ghost use Rattle.compounds.specs.Combination.{pickedGraphs};
 use grammar::ATTRIBUTES;
 use grammar::EDGE_BYTES;
 use grammar::NODES;
@@ -23,7 +23,7 @@ fn node_at(run: &[u8], at: usize) -> usize
 }
 
 // One edge more; nothing changes where there is no such node.
-fn add_edge(rows: &mut [u64; NODES], source: usize, target: usize)
+fn add_edge(rows: &mut [u64], source: usize, target: usize)
     requires { ⌜ length (now rows) ≡ mostNodes ⌝ }
     ensures { λ _. ⌜ now (rows .exit) ≡ link source target (now (rows .entry)) ⌝ }
 {
@@ -35,17 +35,24 @@ fn add_edge(rows: &mut [u64; NODES], source: usize, target: usize)
 }
 
 // The edges of a run of edge records.
-pub fn own_rows(run: &[u8]) -> [u64; NODES]
-    ensures { λ r. ⌜ r ≡ own attributes (edgesIn (now (run .entry))) (replicate mostNodes 0) ⌝ }
+fn add_edges(rows: &mut [u64; NODES], run: &[u8])
+    ensures { λ _. ⌜ now (rows .exit) ≡ own attributes (edgesIn (now (run .entry))) (now (rows .entry)) ⌝ }
 {
-    let mut rows = [0u64; NODES];
     let count = run.len() / EDGE_BYTES;
     for e in 0..count {
         let at = EDGE_BYTES * e;
         let source = node_at(run, at + 2);
         let target = node_at(run, at + 4);
-        add_edge(&mut rows, source, target);
+        add_edge(rows, source, target);
     }
+}
+
+// A table with these edges alone.
+pub fn own_rows(run: &[u8]) -> [u64; NODES]
+    ensures { λ r. ⌜ r ≡ own attributes (edgesIn (now (run .entry))) (replicate mostNodes 0) ⌝ }
+{
+    let mut rows = [0u64; NODES];
+    add_edges(&mut rows, run);
     rows
 }
 
@@ -79,13 +86,29 @@ fn graph_of(graphs: &[u64], number: u16) -> u64
 }
 
 // The pairs of the first `count` of the picked entries, each at its occurrence. Occurrence 0 is the left symbol.
-pub fn place_all(rows: &mut [u64; NODES], graphs: &[u64], picked: [u16; SLOTS], count: usize)
+fn place_all(rows: &mut [u64; NODES], graphs: &[u64], picked: &[u16], count: usize)
     ensures { λ _. ⌜ now (rows .exit)
-        ≡ placedFrom attributes 1 (map (λ i. getD (now (graphs .entry)) i 0) (take count picked)) (now (rows .entry)) ⌝ }
+        ≡ placedFrom attributes 1 (pickedGraphs (now (graphs .entry)) count (now (picked .entry))) (now (rows .entry)) ⌝ }
 {
-    let most = numbers::smaller(count, SLOTS);
+    let most = numbers::smaller(count, picked.len());
     for k in 0..most {
         let pairs = graph_of(graphs, picked[k]);
         place(rows, pairs, k + 1);
     }
+}
+
+// The compound graph of a combination: a production's edges, and the pairs of the picked entries.
+pub fn compound(
+    rows: &mut [u64; NODES],
+    run: &[u8],
+    graphs: &[u64],
+    picked: &[u16; SLOTS],
+    count: usize,
+)
+    ensures { λ _. ⌜ now (rows .exit)
+        ≡ placedFrom attributes 1 (pickedGraphs (now (graphs .entry)) count (now (picked .entry)))
+        (own attributes (edgesIn (now (run .entry))) (now (rows .entry))) ⌝ }
+{
+    add_edges(rows, run);
+    place_all(rows, graphs, picked, count);
 }

@@ -11,6 +11,7 @@ use Rattle.steps.specs.declared.Course.{Course}
 use Rattle.steps.specs.declared.Course.the-variants.{Going, Stopped}
 use Rattle.steps.specs.declared.Run.{Run}
 use Rattle.steps.specs.declared.Task.{Task}
+use Rattle.steps.specs.Step.{goesOn}
 use Rattle.rules.specs.Passes.{System, State, Ran, going, stopped, andThen, try, tries, turn, pass}
 use Rattle.passes.specs.Slices.{Slices}
 use Rattle.passes.specs.Follow.{stateOf, ranBy, ranOf, Beyond, Kept, Follows, Roomy, InTurn}
@@ -66,12 +67,12 @@ module _ (room : ℕ) (σ : Slices) (r : Run) (τ : Slices) (q : Run) (a : Kept 
       }
 
 -- a turn still goes on
-pub kept-ready : (k : Task) (σ : Slices) (r : Run) (τ : Slices) (q : Run)
-    → InTurn k σ r → Kept (k .room) σ r τ q → q .course ≡ Going → InTurn k τ q
-kept-ready k σ r τ q h a g =
+pub kept-ready : (k : Task) (rights : List ℕ) (first : ℕ) (σ : Slices) (r : Run) (τ : Slices) (q : Run)
+    → InTurn k rights first σ r → Kept (k .room) σ r τ q → q .course ≡ Going → InTurn k rights first τ q
+kept-ready k rights first σ r τ q h a g =
     record {
       roomy = kept-roomy (k .room) σ r τ q a (h .roomy);
-      first = le-trans (h .first) (a .more);
+      first-held = le-trans (h .first-held) (a .more);
       few = h .few;
       slots = h .slots;
       going = g;
@@ -145,6 +146,25 @@ module _ (room : ℕ) (σ : Slices) (r : Run) where
 
     pub follows-same : ((limit : ℕ) (s : State) → f limit s ≡ g limit s) → Follows room g σ r τ q
     follows-same h = follows-here (λ limit. h limit (stateOf limit σ r))
+
+-- of a run that goes on only what is left and what is stored counts
+pub follows-going : (room : ℕ) (rule : ℕ → State → Ran) (σ : Slices) (r : Run) (τ : Slices) (q : Run) → r .course ≡ Going
+    → Follows room rule σ (goesOn (r .left) (r .stored)) τ q → Follows room rule σ r τ q
+follows-going room rule σ r τ q g f =
+    record {
+      kept =
+          record {
+            symbols = f .kept .symbols;
+            graphs = f .kept .graphs;
+            productions = f .kept .productions;
+            kids = f .kept .kids;
+            stay = f .kept .stay;
+            more = f .kept .more;
+            fits = f .kept .fits;
+            left = f .kept .left;
+          };
+      ran = λ limit l. f .ran limit l ∙ sym (ap (λ (x : Ran). andThen x (rule limit)) (ran-going limit σ r g));
+    }
 
 -- ---- combinations and productions one after the other
 

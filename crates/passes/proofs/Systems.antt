@@ -1,17 +1,26 @@
 -- Two systems that agree on a production give it the same turn. Assumes nothing.
-use mathlib.Core.Path.{_≡_, refl, ap, _∙_}
+use mathlib.Core.Path.{_≡_, refl, sym, ap, _∙_}
+use mathlib.Core.Bool.{Bool}
 use mathlib.Core.List.{List, [], _∷_, map}
-use Prim.Native.Nat.{ℕ}
-use lib.ListN.{length, take, length-map}
+use Prim.Native.Nat.{ℕ, zero, suc, _+_, _-_, _≤_, _<_}
+use native.Mathlib.Nat.{sub-zero}
+use native.Mathlib.Omega.{arith}
+use lib.Dec.{eqb}
+use lib.ListN.{length, getD, take, length-map}
+use lib.Seq.{length-take-le, getD-take}
+use Rattle.numbers.specs.Lists.{upFrom, keep}
+use Rattle.numbers.proofs.Keeping.{map-same, map-moved}
 use Rattle.rules.specs.declared.Entry.{Entry}
 use Rattle.steps.specs.declared.Run.{Run}
 use Rattle.steps.specs.declared.Task.{Task}
 use Rattle.rules.specs.Passes.{System, State, Ran, andThen, entry, graphs, candidates, combinations, try, tries, turn}
 use Rattle.rules.proofs.Stored.{Each, each-combination}
-use Rattle.passes.specs.Slices.{Slices, entriesTo}
-use Rattle.passes.specs.Follow.{stateOf, Follows, systemBy, under, combosFrom}
+use Rattle.turns.specs.Combos.{candidatesFrom, combosOf}
+use Rattle.turns.specs.Turning.{ofSymbol}
+use Rattle.passes.specs.Slices.{Slices, entryAt, entriesTo}
+use Rattle.passes.specs.Follow.{stateOf, Follows, systemBy, over, combosIn}
+use Rattle.passes.proofs.Entries.{length-entries, entry-at}
 use Rattle.passes.proofs.Following.{then-same, follows-here}
-use Rattle.passes.proofs.Levels.{over}
 
 -- ---- the same tries
 
@@ -34,27 +43,55 @@ module _ (W U : System) (limit room p n : ℕ) (left : U .left p ≡ W .left p)
 -- ---- the turn of a task
 
 -- a task says of its production what the system W says
-pub record Agrees (W : System) (k : Task) (rows : List ℕ) : Type 0 where
-  pub left : systemBy k rows .left (k .number) ≡ W .left (k .number)
-  pub rights : take (k .count) (k .rights) ≡ W .rights (k .number)
+pub record Agrees (W : System) (k : Task) (rights edges : List ℕ) : Type 0 where
+  pub left : systemBy k rights edges .left (k .number) ≡ W .left (k .number)
+  pub rights-are : take (k .count) rights ≡ W .rights (k .number)
   pub long : length (W .rights (k .number)) ≡ k .count
-  pub graph : (gs : List ℕ) → length gs ≡ k .count → systemBy k rows .graph (k .number) gs ≡ W .graph (k .number) gs
-  pub circle : (gs : List ℕ) → length gs ≡ k .count → systemBy k rows .circle (k .number) gs ≡ W .circle (k .number) gs
+  pub graph : (gs : List ℕ) → length gs ≡ k .count → systemBy k rights edges .graph (k .number) gs ≡ W .graph (k .number) gs
+  pub circle : (gs : List ℕ) → length gs ≡ k .count → systemBy k rights edges .circle (k .number) gs ≡ W .circle (k .number) gs
 
-under-nothing : (cs : List (List ℕ)) → under [] cs ≡ cs
-unfolding under
-under-nothing [] = refl
-under-nothing (c ∷ cs) = ap (λ (l : List (List ℕ)). c ∷ l) (under-nothing cs)
+keep-same : (t u : ℕ → Bool) (i n : ℕ) → ((j : ℕ) → i ≤ j → j < i + n → t j ≡ u j) → keep t (upFrom i n) ≡ keep u (upFrom i n)
+unfolding keep upFrom
+keep-same t u i zero h = refl
+keep-same t u i (suc n) h = rw (h i (omega arith) (omega arith), keep-same t u (suc i) n (λ j a b. h j (omega arith) (omega arith)))
 
-module _ (W : System) (k : Task) (rows : List ℕ) (agrees : Agrees W k rows) where
+-- the candidates of a place among the first entries
+candidates-are : (σ : Slices) (first : ℕ) (rights : List ℕ) (count i : ℕ)
+    → candidates (entriesTo σ first) (getD rights i 0) ≡ candidatesFrom (ofSymbol (σ .symbols) rights) first count i 0
+unfolding candidates entryAt
+candidates-are σ first rights count i =
+    ap (λ (n : ℕ). keep (λ j. eqb (entry (entriesTo σ first) j .symbol) (getD rights i 0)) (upFrom 0 n)) (length-entries σ first)
+    ∙ keep-same (λ j. eqb (entry (entriesTo σ first) j .symbol) (getD rights i 0)) (ofSymbol (σ .symbols) rights i) 0 first
+    (λ j a b. ap (λ (e : Entry). eqb (e .symbol) (getD rights i 0)) (entry-at σ first j (omega (arith, b))))
+    ∙ ap (λ (n : ℕ). keep (ofSymbol (σ .symbols) rights i) (upFrom 0 n)) (sym (sub-zero first))
+
+-- a list by its places
+by-places : {A : Type 0} (f : ℕ → A) (xs : List ℕ) → map f xs ≡ map (λ i. f (getD xs i 0)) (upFrom 0 (length xs))
+unfolding upFrom
+by-places f [] = refl
+by-places f (x ∷ xs) =
+    ap (λ l. f x ∷ l)
+    (by-places f xs
+    ∙ map-same (λ i. f (getD xs i 0)) (λ i. f (getD (x ∷ xs) (1 + i) 0)) 0 (length xs)
+    (λ i a b. let e : suc i ≡ 1 + i = omega arith in
+    ap (λ (j : ℕ). f (getD (x ∷ xs) j 0)) e)
+    ∙ map-moved (λ i. f (getD (x ∷ xs) i 0)) 1 (length xs))
+
+module _ (W : System) (k : Task) (rights edges : List ℕ) (agrees : Agrees W k rights edges) (slots : k .count ≤ length rights) where
   abbrev all : List Entry → List (List ℕ)
   all es = combinations (map (candidates es) (W .rights (k .number)))
 
-  combos-all : (es : List Entry) (picked : List ℕ) → combosFrom k es 0 picked ≡ all es
-  unfolding combosFrom
-  combos-all es picked =
-      under-nothing (combinations (map (candidates es) (take (k .count) (k .rights))))
-      ∙ ap (λ (l : List ℕ). combinations (map (candidates es) l)) (agrees .rights)
+  combos-all : (σ : Slices) (first : ℕ) → combosIn k rights first (σ .symbols) ≡ all (entriesTo σ first)
+  unfolding combosOf
+  combos-all σ first =
+      let es = entriesTo σ first in
+      let long : length (take (k .count) rights) ≡ k .count = length-take-le (k .count) rights slots in
+      ap combinations
+      (map-same (λ j. candidatesFrom (ofSymbol (σ .symbols) rights) first (k .count) j 0) (λ j. candidates es (getD (take (k .count) rights) j 0)) 0 (k .count - 0)
+      (λ j a b. sym (candidates-are σ first rights (k .count) j) ∙ ap (candidates es) (sym (getD-take (k .count) rights j 0 (omega (arith, b)))))
+      ∙ ap (λ (n : ℕ). map (λ j. candidates es (getD (take (k .count) rights) j 0)) (upFrom 0 n)) (sub-zero (k .count) ∙ sym long)
+      ∙ sym (by-places (candidates es) (take (k .count) rights))
+      ∙ ap (map (candidates es)) (agrees .rights-are))
 
   each-all : (es : List Entry) → Each (k .count) (all es)
   each-all es =
@@ -62,14 +99,13 @@ module _ (W : System) (k : Task) (rows : List ℕ) (agrees : Agrees W k rows) wh
       (each-combination (map (candidates es) (W .rights (k .number))))
 
   -- all combinations of the entries that were stored when the turn began
-  pub turn-follows : (σ : Slices) (r : Run) (picked : List ℕ) (τ : Slices) (q : Run) → k .first ≡ r .stored
-      → Follows (k .room) (over k rows (combosFrom k (entriesTo σ (k .first)) 0 picked)) σ r τ q
+  pub turn-follows : (σ : Slices) (r : Run) (τ : Slices) (q : Run)
+      → Follows (k .room) (over k rights edges (combosIn k rights (r .stored) (σ .symbols))) σ r τ q
       → Follows (k .room) (λ limit. turn W limit (k .room) (k .number)) σ r τ q
   unfolding turn
-  turn-follows σ r picked τ q e f =
-      let es = entriesTo σ (k .first) in
-      follows-here (k .room) σ r (over k rows (combosFrom k es 0 picked)) (λ limit. turn W limit (k .room) (k .number)) τ q f
-      (λ limit. ap (λ (cs : List (List ℕ)). over k rows cs limit (stateOf limit σ r)) (combos-all es picked)
-      ∙ tries-same W (systemBy k rows) limit (k .room) (k .number) (k .count) (agrees .left) (agrees .graph) (agrees .circle)
-      (all es) (each-all es) (stateOf limit σ r)
-      ∙ ap (λ (n : ℕ). tries W limit (k .room) (k .number) (all (entriesTo σ n)) (stateOf limit σ r)) e)
+  turn-follows σ r τ q f =
+      let es = entriesTo σ (r .stored) in
+      follows-here (k .room) σ r (over k rights edges (combosIn k rights (r .stored) (σ .symbols))) (λ limit. turn W limit (k .room) (k .number)) τ q f
+      (λ limit. ap (λ (cs : List (List ℕ)). over k rights edges cs limit (stateOf limit σ r)) (combos-all σ (r .stored))
+      ∙ tries-same W (systemBy k rights edges) limit (k .room) (k .number) (k .count) (agrees .left) (agrees .graph) (agrees .circle)
+      (all es) (each-all es) (stateOf limit σ r))

@@ -10,7 +10,7 @@ use lib.ListN.{length, take, replicate, List·getD-eq-default}
 use lib.Seq.{length-take-le}
 use borrow.Author.Tests.{eqb-true}
 use Rattle.numbers.proofs.Members.{member-at, keep-mem}
-use Rattle.grammar.specs.declared.Node.{Node}
+use Rattle.grammar.specs.declared.Edge.{Edge}
 use Rattle.grammar.specs.declared.Production.{Production}
 use Rattle.grammar.specs.Grammar.{Grammar, noSymbol, noProduction, symbol, production, symbolAt, edgesOf}
 use Rattle.grammar.specs.Table.{P, edgesIn, grammarOf}
@@ -30,9 +30,11 @@ use Rattle.steps.specs.declared.Task.{Task}
 use Rattle.rules.specs.Passes.{turn}
 use Rattle.rules.specs.Test.{systemOf, systemIn}
 use Rattle.grammar.proofs.Lookups.{slots-seven}
-use Rattle.passes.specs.Slices.{Slices, entriesTo}
-use Rattle.passes.specs.Follow.{Follows, Roomy, InTurn, systemBy, taskOf, ownOf, combosFrom}
-use Rattle.passes.proofs.Levels.{over}
+use Rattle.steps.specs.Step.{goesOn}
+use Rattle.compounds.specs.Combination.{closedOver}
+use Rattle.turns.specs.Combos.{combosOf}
+use Rattle.passes.specs.Slices.{Slices}
+use Rattle.passes.specs.Follow.{Follows, Roomy, InTurn, systemBy, over, taskOf, combosIn}
 use Rattle.passes.proofs.Systems.{Agrees, turn-follows}
 
 -- ---- a table that is not refused
@@ -50,39 +52,52 @@ module _ (bs : List ℕ) (good : refusal bs ≡ Good) where
   pub own-edges : (p : ℕ) → edgesIn (runOf bs p) ≡ edgesOf g p
   own-edges p = taken .runs p
 
-  module _ (p : ℕ) (there : p < P bs) where
-    pub agrees : (room first : ℕ) → Agrees (systemIn bs) (taskOf p (production g p) room first) (ownOf bs p)
-    unfolding taskOf ownOf systemOf systemBy
-    agrees room first =
-        record {
-          left = refl;
-          rights = refl;
-          long = length-take-le (production g p .n) (production g p .slots) (omega (arith, few-rights bs good p, slots-seven bs p));
-          graph = λ gs h. ap (λ (l : List ℕ). rootGraph 8 (closure l)) (rows-made bs good p gs h);
-          circle = λ gs h. ap (λ (l : List ℕ). hasCircle (closure l)) (rows-made bs good p gs h);
-        }
+  pub agrees : (p room : ℕ) → Agrees (systemIn bs) (taskOf p (production g p) room) (production g p .slots) (runOf bs p)
+  unfolding taskOf systemOf systemBy
+  agrees p room =
+      let own = ap (λ (es : List Edge). own 8 es (replicate 64 0)) (own-edges p) in
+      record {
+        left = refl;
+        rights-are = refl;
+        long = length-take-le (production g p .n) (production g p .slots) (omega (arith, few-rights bs good p, slots-seven bs p));
+        graph =
+            λ gs h. ap (λ (l : List ℕ). rootGraph 8 (closedOver l gs)) own ∙ ap (λ (l : List ℕ). rootGraph 8 (closure l)) (rows-made bs good p gs h);
+        circle =
+            λ gs h. ap (λ (l : List ℕ). hasCircle (closedOver l gs)) own ∙ ap (λ (l : List ℕ). hasCircle (closure l)) (rows-made bs good p gs h);
+      }
 
   -- a turn begins
-  module _ (p room : ℕ) (there : p < P bs) (σ : Slices) (r : Run) (k : Task) (made : k ≡ taskOf p (production g p) room (r .stored)) where
-    pub task-ready : Roomy room σ r → r .course ≡ Going → InTurn k σ r
+  module _ (p room : ℕ) (σ : Slices) (r : Run) where
+    pub turn-ready : Roomy room σ r → (k : Task) → k ≡ taskOf p (production g p) room → (rights : List ℕ) → rights ≡ production g p .slots
+        → InTurn k rights (r .stored) σ (goesOn (r .left) (r .stored))
     unfolding taskOf
-    task-ready h on =
-        subst (λ (t : Task). InTurn t σ r) (sym made)
+    turn-ready h k made rights are =
+        rw (made, are)
         (record {
-          roomy = h;
-          first = le-refl (r .stored);
+          roomy =
+              record {
+                symbols = h .symbols;
+                graphs = h .graphs;
+                productions = h .productions;
+                kids = h .kids;
+                stored = h .stored;
+                small = h .small;
+              };
+          first-held = le-refl (r .stored);
           few = few-rights bs good p;
           slots = slots-seven bs p;
-          going = on;
+          going = refl;
         })
 
     -- where all its combinations are followed, the turn is
-    pub task-turn : (rows : List ℕ) → rows ≡ ownOf bs p → (n : ℕ) → n ≡ 0 → (picked : List ℕ) (τ : Slices) (q : Run)
-        → Follows (k .room) (over k rows (combosFrom k (entriesTo σ (k .first)) n picked)) σ r τ q
+    pub task-turn : (k : Task) → k ≡ taskOf p (production g p) room → (rights : List ℕ) → rights ≡ production g p .slots
+        → (edges : List ℕ) → edges ≡ runOf bs p → (τ : Slices) (q : Run)
+        → Follows (k .room) (over k rights edges (combosIn k rights (r .stored) (σ .symbols))) σ r τ q
         → Follows room (λ limit. turn (systemIn bs) limit room p) σ r τ q
     unfolding taskOf
-    task-turn rows own n none picked τ q f =
-        turn-follows (systemIn bs) (taskOf p (production g p) room (r .stored)) (ownOf bs p) (agrees p there room (r .stored)) σ r picked τ q refl
-        (subst (λ (l : List ℕ). Follows room (over (taskOf p (production g p) room (r .stored)) l (combosFrom (taskOf p (production g p) room (r .stored)) (entriesTo σ (r .stored)) 0 picked)) σ r τ q) own
-        (subst (λ (t : Task). Follows (t .room) (over t rows (combosFrom t (entriesTo σ (t .first)) 0 picked)) σ r τ q) made
-        (subst (λ (i : ℕ). Follows (k .room) (over k rows (combosFrom k (entriesTo σ (k .first)) i picked)) σ r τ q) none f)))
+    task-turn k made rights are edges is τ q f =
+        turn-follows (systemIn bs) (taskOf p (production g p) room) (production g p .slots) (runOf bs p) (agrees p room)
+        (omega (arith, few-rights bs good p, slots-seven bs p)) σ r τ q
+        (subst (λ (l : List ℕ). Follows room (over (taskOf p (production g p) room) (production g p .slots) l (combosIn (taskOf p (production g p) room) (production g p .slots) (r .stored) (σ .symbols))) σ r τ q) is
+        (subst (λ (l : List ℕ). Follows room (over (taskOf p (production g p) room) l edges (combosIn (taskOf p (production g p) room) l (r .stored) (σ .symbols))) σ r τ q) are
+        (subst (λ (t : Task). Follows (t .room) (over t rights edges (combosIn t rights (r .stored) (σ .symbols))) σ r τ q) made f)))

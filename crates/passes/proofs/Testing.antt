@@ -29,12 +29,16 @@ module _ (bs : List ℕ) where
   taking-is count T R h c t r =
       rw (r ∙ valid-whole bs (valid bs h) _, t ∙ valid-whole bs (valid bs h) _, productions-many bs, c)
 
-  pub test-taken : (limit room count : ℕ) (T R : Symbols) (σ : Slices) → refusal bs ≡ Good → count ≡ P bs → room ≡ roomOf σ
+  -- what the passes go over is what takes part
+  pub passes-taken : (limit room count : ℕ) (T R : Symbols) (σ : Slices) → refusal bs ≡ Good → count ≡ P bs → room ≡ roomOf σ
       → T ≡ ifWhole bs (treed (grammarOf bs)) → R ≡ ifWhole bs (reached (grammarOf bs) T)
-      → saying (widthOf bs) (grammarOf bs) (passes (systemIn bs) limit room (partsAmong T R (grammarOf bs) (upFrom 0 count)))
-      ≡ test bs limit (roomOf σ)
+      → passes (systemIn bs) limit room (partsAmong T R (grammarOf bs) (upFrom 0 count)) ≡ passes (systemIn bs) limit (roomOf σ) (taking (grammarOf bs))
+  passes-taken limit room count T R σ h c e t r = rw (taking-is count T R h c t r, e)
+
+  pub test-taken : (limit room : ℕ) → refusal bs ≡ Good
+      → saying (widthOf bs) (grammarOf bs) (passes (systemIn bs) limit room (taking (grammarOf bs))) ≡ test bs limit room
   unfolding test afterCheck
-  test-taken limit room count T R σ h c e t r = rw (h, taking-is count T R h c t r, e)
+  test-taken limit room h = rw h
 
   pub test-refused : (limit room : ℕ) (b : Broken) → refusal bs ≡ Bad b → test bs limit room ≡ outcome (Refused b) noRoot empty 0
   unfolding test afterCheck

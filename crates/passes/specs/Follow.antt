@@ -1,38 +1,44 @@
 -- The passes over lent slices, where the closures that are left are counted down: what the slices and a run say in the words of the
 -- rules, and what it is to follow a rule. Assumes nothing.
-use mathlib.Core.Bool.{Bool}
-use mathlib.Core.List.{List, _++_, map}
+use mathlib.Core.Bool.{Bool, true, false}
+use mathlib.Core.List.{List, map}
 use mathlib.Core.Path.{_≡_}
-use Prim.Native.Nat.{ℕ, _-_, _*_, _≤_, _<_}
-use lib.Dec.{eqb}
-use lib.ListN.{length, getD, take, drop, replicate}
-use Rattle.numbers.specs.Lists.{keep, eachBelow, someBelow}
+use Prim.Native.Nat.{ℕ, _+_, _-_, _*_, _≤_}
+use lib.ListN.{length, getD, take, drop}
+use Rattle.numbers.specs.Lists.{keep}
 use Rattle.grammar.specs.declared.Production.{Production}
 use Rattle.grammar.specs.Grammar.{Grammar, production, rights, edgesOf}
 use Rattle.grammar.specs.Table.{attributes, grammarOf}
 use Rattle.graph.specs.declared.Trail.{Trail}
-use Rattle.graph.specs.Rows.{own, compound, hasCircle, rootGraph}
-use Rattle.graph.specs.Parts.{mostNodes}
+use Rattle.graph.specs.Rows.{compound, hasCircle, rootGraph}
 use Rattle.graph.specs.Trails.{noTrail}
 use Rattle.parts.specs.Sets.{Symbols}
 use Rattle.parts.specs.Rule.{takesPart}
 use Rattle.rules.specs.declared.Answer.{Answer}
-use Rattle.rules.specs.declared.Entry.{Entry}
 use Rattle.rules.specs.declared.Report.{Report}
 use Rattle.steps.specs.declared.Course.{Course}
 use Rattle.steps.specs.declared.Course.the-variants.{Going, Stopped}
 use Rattle.steps.specs.declared.Run.{Run}
 use Rattle.steps.specs.declared.Task.{Task}
-use Rattle.steps.specs.Step.{closedOver}
-use Rattle.rules.specs.Passes.{System, State, Ran, going, stopped, andThen, seven, counting, candidates, combinations}
+use Rattle.steps.specs.declared.Verdict.{Verdict}
+use Rattle.steps.specs.declared.Verdict.the-variants.{Steps, Circle, Known, Full, New}
+use Rattle.compounds.specs.Combination.{ownIn, closedOver}
+use Rattle.turns.specs.Combos.{combosOf}
+use Rattle.turns.specs.Turning.{ofSymbol}
+use Rattle.passes.specs.declared.Ending.{Ending}
+use Rattle.rules.specs.Passes.{System, State, Ran, going, stopped, andThen, counting, tries}
 use Rattle.rules.specs.Test.{ofRoot, circleIn}
 use Rattle.passes.specs.Slices.{Slices, entriesTo}
 
 -- ---- the slices and a run, in the words of the rules
 
-abbrev pub reportOf : Answer → List ℕ → ℕ → Run → ℕ → Report
-reportOf a root limit r begun =
-    record { answer = a; closures = limit - r .left; entries = r .stored; passes = begun; root = root; circle = noTrail }
+-- the end of the passes, and the report in which no circle is said yet
+abbrev pub endingOf : Answer → List ℕ → ℕ → Run → ℕ → Ending
+endingOf a root limit r begun = record { answer = a; root = root; closures = limit - r .left; entries = r .stored; passes = begun }
+
+abbrev pub unsaid : Ending → Report
+unsaid e =
+    record { answer = e .answer; closures = e .closures; entries = e .entries; passes = e .passes; root = e .root; circle = noTrail }
 
 -- of `limit` closures those that are not left have been made
 abbrev pub stateOf : ℕ → Slices → Run → State
@@ -89,53 +95,52 @@ circleOver bs gs root =
 
 -- ---- one production's turn
 
--- a task over its production's own rows as a system, the same at each production
-unfoldable pub systemBy : Task → List ℕ → System
-systemBy k rows =
+-- a task over its production's run of edge records as a system, the same at each production
+unfoldable pub systemBy : Task → List ℕ → List ℕ → System
+systemBy k rights edges =
     record {
       left = λ p. k .symbol;
-      rights = λ p. take (k .count) (k .rights);
-      graph = λ p gs. rootGraph attributes (closedOver rows gs);
-      circle = λ p gs. hasCircle (closedOver rows gs);
+      rights = λ p. take (k .count) rights;
+      graph = λ p gs. rootGraph attributes (closedOver (ownIn edges) gs);
+      circle = λ p gs. hasCircle (closedOver (ownIn edges) gs);
     }
 
--- the turn of a production by its number, where `first` entries are stored
-unfoldable pub taskOf : ℕ → Production → ℕ → ℕ → Task
-taskOf number p room first =
-    record { number = number; symbol = p .left; count = p .n; rights = p .slots; room = room; first = first }
+-- the rule of a task over some combinations
+abbrev pub over : Task → List ℕ → List ℕ → List (List ℕ) → ℕ → State → Ran
+over k rights edges cs limit = tries (systemBy k rights edges) limit (k .room) (k .number) cs
 
-unfoldable pub ownOf : List ℕ → ℕ → List ℕ
-ownOf bs p = own attributes (edgesOf (grammarOf bs) p) (replicate mostNodes 0)
+-- the turn of a production by its number
+unfoldable pub taskOf : ℕ → Production → ℕ → Task
+taskOf number p room = record { number = number; symbol = p .left; count = p .n; room = room }
 
 -- the productions of a list that take part, by the two sets
 abbrev pub partsAmong : Symbols → Symbols → Grammar → List ℕ → List ℕ
 partsAmong treed reached g ps = keep (λ p. takesPart treed reached (production g p)) ps
 
--- each combination behind the numbers that are chosen already
-unfoldable pub under : List ℕ → List (List ℕ) → List (List ℕ)
-under chosen cs = map (λ c. chosen ++ c) cs
-
--- the combinations that begin as the first n of the picked numbers do
-unfoldable pub combosFrom : Task → List Entry → ℕ → List ℕ → List (List ℕ)
-combosFrom k es n picked = under (take n picked) (combinations (map (candidates es) (drop n (take (k .count) (k .rights)))))
-
--- some of the first n entries has the symbol
-abbrev pub occursIn : List ℕ → ℕ → ℕ → Bool
-occursIn symbols y n = someBelow (λ i. eqb (getD symbols i 0) y) n
-
--- each of the first n right symbols has one among the first `first` entries
-abbrev pub allIn : List ℕ → List ℕ → ℕ → ℕ → Bool
-allIn symbols rights first n = eachBelow (λ j. occursIn symbols (getD rights j 0) first) n
+-- the combinations of the entries with which the turn began, of which there are `first`
+abbrev pub combosIn : Task → List ℕ → ℕ → List ℕ → List (List ℕ)
+combosIn k rights first symbols = combosOf (ofSymbol symbols rights) first (k .count) 0
 
 -- a turn goes on: the room holds what is stored, and what was stored when the turn began still is
-pub record InTurn (k : Task) (σ : Slices) (r : Run) : Type 0 where
+pub record InTurn (k : Task) (rights : List ℕ) (first : ℕ) (σ : Slices) (r : Run) : Type 0 where
   pub roomy : Roomy (k .room) σ r
-  pub first : k .first ≤ r .stored
+  pub first-held : first ≤ r .stored
   pub few : k .count ≤ 7
-  pub slots : length (k .rights) ≡ 7
+  pub slots : length rights ≡ 7
   pub going : r .course ≡ Going
 
--- the first n slots hold numbers of entries with which the turn began, the others 0
-pub record Picked (k : Task) (n : ℕ) (picked : List ℕ) : Type 0 where
-  pub slots : picked ≡ seven (take n picked)
-  pub below : (i : ℕ) → i < n → getD picked i 0 < k .first
+-- ---- what a verdict leads to
+
+abbrev pub halts : Verdict → Bool
+halts Steps = true
+halts Circle = true
+halts Known = false
+halts Full = true
+halts New = false
+
+abbrev pub storedAt : Verdict → ℕ → ℕ
+storedAt Steps stored = stored
+storedAt Circle stored = stored
+storedAt Known stored = stored
+storedAt Full stored = stored
+storedAt New stored = stored + 1

@@ -1,5 +1,6 @@
 // The circularity test: the passes over four parallel lent slices of numbers.
 ghost use mathlib.Core.Path.{_≡_};
+ghost use mathlib.Core.Bool.{true};
 ghost use mathlib.Core.List.{[], _∷_};
 ghost use Prim.Native.Nat.{_-_, _≤_, _<_};
 ghost use lib.ListN.{length, set, take};
@@ -9,10 +10,13 @@ ghost use Rattle.grammar.specs.Grammar.{production};
 ghost use Rattle.grammar.specs.Table.{P, grammarOf};
 ghost use Rattle.grammar.specs.Refusal.{refusal};
 ghost use Rattle.graph.specs.Trails.{trail, noTrail};
+ghost use Rattle.parts.specs.Rule.{taking};
 ghost use Rattle.rules.specs.Passes as stated;
 ghost use Rattle.rules.specs.Test.{systemIn, reportWith};
 ghost use Rattle.passes.specs.Slices.{lent, atEntry, atExit, roomOf, Tells, Tested, entriesTo};
-ghost use Rattle.passes.specs.Follow.{reportOf, Follows, Roomy, InTurn, Picked, systemBy, taskOf, ownOf, combosFrom, occursIn, allIn, partsAmong, circleOver};
+ghost use Rattle.steps.specs.Step.{goesOn, counts, runAt};
+ghost use Rattle.turns.specs.Turning.{ofSymbol, Numbers, Firsts};
+ghost use Rattle.passes.specs.Follow.{endingOf, unsaid, Follows, Roomy, InTurn, over, taskOf, combosIn, halts, storedAt, partsAmong, circleOver};
 use grammar::Checked;
 use grammar::NODES;
 use grammar::Production;
@@ -24,134 +28,127 @@ use rules::Report;
 use steps::Course;
 use steps::Run;
 use steps::Task;
+use steps::Verdict;
 
-// The combination with an entry picked for the right symbol `at`.
-fn picked_with(picked: [u16; SLOTS], at: usize, entry: u16) -> [u16; SLOTS]
-    requires { ⌜ at < 7 ⌝ }
-    ensures { λ r. ⌜ r ≡ set picked at entry ⌝ }
-{
-    let mut next = picked;
-    next[at] = entry;
-    next
+// How the passes have ended: of a report all but the circle.
+pub struct Ending {
+    pub answer: Answer,
+    pub root: [u16; SLOTS],
+    pub closures: u32,
+    pub entries: u16,
+    pub passes: u16,
 }
 
-// The combinations that begin as `picked` does, with `left` right symbols still to be picked for.
-fn level(
+// Whether the passes end with it.
+fn stops(verdict: Verdict) -> bool
+    ensures { λ r. ⌜ r ≡ halts verdict ⌝ }
+{
+    match verdict {
+        Verdict::Steps => true,
+        Verdict::Circle => true,
+        Verdict::Known => false,
+        Verdict::Full => true,
+        Verdict::New => false,
+    }
+}
+
+// How many entries are stored after it.
+fn stored_after(verdict: Verdict, stored: usize) -> usize
+    requires { ⌜ stored ≤ 4096 ⌝ }
+    ensures { λ r. ⌜ r ≡ storedAt verdict stored ⌝ }
+{
+    match verdict {
+        Verdict::Steps => stored,
+        Verdict::Circle => stored,
+        Verdict::Known => stored,
+        Verdict::Full => stored,
+        Verdict::New => stored + 1,
+    }
+}
+
+// The run after it, where `left` closures were left before.
+fn run_after(verdict: Verdict, number: u16, picked: [u16; SLOTS], left: u32, stored: usize) -> Run
+    requires { ⌜ (counts verdict ≡ true → 1 ≤ left) × (stored ≤ 4096) ⌝ }
+    ensures { λ r. ⌜ r ≡ runAt verdict number picked left stored ⌝ }
+{
+    match verdict {
+        Verdict::Steps => steps::stopped(Answer::OutOfSteps, [0u16; SLOTS], left, stored),
+        Verdict::Circle => steps::stopped(Answer::Circular(number), picked, left - 1, stored),
+        Verdict::Known => steps::going_on(left - 1, stored),
+        Verdict::Full => steps::stopped(Answer::OutOfRoom, [0u16; SLOTS], left - 1, stored),
+        Verdict::New => steps::going_on(left - 1, stored + 1),
+    }
+}
+
+// The combinations of a turn that began with `first` entries, from the first of them on.
+fn combine(
     symbols: &mut [u16],
     graphs: &mut [u64],
     productions: &mut [u16],
     kids: &mut [u16],
-    own: &[u64; NODES],
+    edges: &[u8],
     task: Task,
-    left: usize,
-    picked: [u16; SLOTS],
-    run: Run,
+    rights: &[u16; SLOTS],
+    firsts: &[u16; SLOTS],
+    left: u32,
+    first: usize,
 ) -> Run
-    requires { ⌜ (left ≤ task .count) × InTurn task (lent symbols graphs productions kids) run × Picked task (task .count - left) picked ⌝ }
+    requires { ⌜ InTurn task (now rights) first (lent symbols graphs productions kids) (goesOn left first)
+        × Numbers (task .count) first (now firsts) × Firsts (ofSymbol (now symbols) (now rights)) first (task .count) (now firsts) ⌝ }
     ensures { λ r. ⌜ Follows (task .room)
-        (λ limit. stated.tries (systemBy task (now (own .entry))) limit (task .room) (task .number)
-        (combosFrom task (entriesTo (atEntry symbols graphs productions kids) (task .first)) (task .count - left) picked))
-        (atEntry symbols graphs productions kids) run
+        (over task (now (rights .entry)) (now (edges .entry)) (combosIn task (now (rights .entry)) first (now (symbols .entry))))
+        (atEntry symbols graphs productions kids) (goesOn left first)
         (atExit symbols graphs productions kids) r ⌝ }
 {
-    if left == 0 {
-        return steps::try_one(symbols, graphs, productions, kids, own, task, picked, run);
-    }
-    let count = task.count;
-    let at = count - left;
-    let rights = task.rights;
-    let right = rights[at];
-    let first = task.first;
-    let mut now = run;
-    let mut e = 0;
-    while e < first {
-        let course = now.course;
-        if let Course::Stopped(_) = course {
-            return now;
+    let mut spare = left;
+    let mut stored = first;
+    let mut picked = *firsts;
+    loop {
+        let verdict = steps::try_one(
+            symbols,
+            graphs,
+            productions,
+            kids,
+            edges,
+            task,
+            &picked,
+            spare,
+            stored,
+        );
+        if stops(verdict) {
+            return run_after(verdict, task.number, picked, spare, stored);
         }
-        // Counted on before the test: its two ways then go back to the loop, and are proved, each by itself.
-        let here = e;
-        let symbol = symbols[e];
-        e += 1;
-        if symbol == right {
-            let next = picked_with(picked, at, here as u16);
-            now = level(
-                symbols,
-                graphs,
-                productions,
-                kids,
-                own,
-                task,
-                left - 1,
-                next,
-                now,
-            );
+        spare -= 1;
+        stored = stored_after(verdict, stored);
+        let more = turns::next_combination(
+            symbols,
+            rights,
+            firsts,
+            task.count,
+            first as u16,
+            &mut picked,
+        );
+        if !more {
+            return steps::going_on(spare, stored);
         }
     }
-    now
-}
-
-// Whether one of the first `stored` entries has the symbol.
-fn occurs(symbols: &[u16], stored: usize, symbol: u16) -> bool
-    requires { ⌜ stored ≤ length (now symbols) ⌝ }
-    ensures { λ r. ⌜ r ≡ occursIn (now (symbols .entry)) symbol stored ⌝ }
-{
-    let mut k = stored;
-    while 0 < k {
-        k -= 1;
-        if symbols[k] == symbol {
-            return true;
-        }
-    }
-    false
-}
-
-// Whether each right symbol had an entry when the turn began.
-fn all_occur(symbols: &[u16], task: Task) -> bool
-    requires { ⌜ (task .first ≤ length (now symbols)) × (task .count ≤ 7) ⌝ }
-    ensures { λ r. ⌜ r ≡ allIn (now (symbols .entry)) (task .rights) (task .first) (task .count) ⌝ }
-{
-    let rights = task.rights;
-    let stored = task.first;
-    let mut k = task.count;
-    while 0 < k {
-        k -= 1;
-        let right = rights[k];
-        if !occurs(symbols, stored, right) {
-            return false;
-        }
-    }
-    true
 }
 
 // The task of a turn of a production, which has the number `number`.
-fn task_of(number: usize, production: Production, room: usize, first: usize) -> Task
+fn task_of(number: usize, production: Production, room: usize) -> Task
     requires { ⌜ number < 512 ⌝ }
-    ensures { λ r. ⌜ r ≡ taskOf number production room first ⌝ }
+    ensures { λ r. ⌜ r ≡ taskOf number production room ⌝ }
 {
-    let rights = production.slots;
     let count = numbers::wide(production.n);
     Task {
         number: number as u16,
         symbol: production.left,
         count,
-        rights,
         room,
-        first,
     }
 }
 
-// The own rows of the production `number`.
-fn own_of(table: &[u8], number: usize) -> [u64; NODES]
-    requires { ⌜ (refusal (now table) ≡ Good) × (number < P (now table)) ⌝ }
-    ensures { λ r. ⌜ r ≡ ownOf (now (table .entry)) number ⌝ }
-{
-    let run = tables::run_of(table, number);
-    closures::own_rows(run)
-}
-
-// One turn, if the production takes part. Where a right symbol has no entry it ends at once, whether it does or not; else the production's
-// own rows are made, once.
+// One turn, if the production takes part. Where a right symbol has no entry it ends at once, whether it does or not.
 fn turn(
     table: &[u8],
     number: usize,
@@ -171,24 +168,29 @@ fn turn(
         (atExit symbols graphs productions kids) r ⌝ }
 {
     let production = tables::production_of(table, number);
-    let task = task_of(number, production, room, run.stored);
-    if !all_occur(symbols, task) {
+    let rights = production.slots;
+    let count = numbers::wide(production.n);
+    let first = run.stored;
+    let mut firsts = [0u16; SLOTS];
+    if !turns::first_candidates(symbols, &rights, count, first as u16, &mut firsts) {
         return run;
     }
     if !walks::takes_part(production, treed, reached) {
         return run;
     }
-    let own = own_of(table, number);
-    level(
+    let edges = tables::run_of(table, number);
+    let task = task_of(number, production, room);
+    combine(
         symbols,
         graphs,
         productions,
         kids,
-        &own,
+        edges,
         task,
-        task.count,
-        [0u16; SLOTS],
-        run,
+        &rights,
+        &firsts,
+        run.left,
+        first,
     )
 }
 
@@ -233,18 +235,17 @@ fn pass(
     now
 }
 
-// The report after `begun` passes: the closures that are not left have been made, and no circle is said yet.
-fn ended(answer: Answer, root: [u16; SLOTS], limit: u32, run: Run, begun: u16) -> Report
+// The end after `begun` passes: the closures that are not left have been made.
+fn ended(answer: Answer, root: [u16; SLOTS], limit: u32, run: Run, begun: u16) -> Ending
     requires { ⌜ (run .left ≤ limit) × (run .stored ≤ 4096) ⌝ }
-    ensures { λ r. ⌜ r ≡ reportOf answer root limit run begun ⌝ }
+    ensures { λ r. ⌜ r ≡ endingOf answer root limit run begun ⌝ }
 {
-    Report {
+    Ending {
         answer,
+        root,
         closures: limit - run.left,
         entries: run.stored as u16,
         passes: begun,
-        root,
-        circle: search::no_trail(),
     }
 }
 
@@ -260,11 +261,11 @@ fn passes(
     kids: &mut [u16],
     room: usize,
     limit: u32,
-) -> Report
+) -> Ending
     requires { ⌜ (refusal (now table) ≡ Good) × (count ≡ P (now table)) × (room ≡ roomOf (lent symbols graphs productions kids)) ⌝ }
     ensures { λ r. ⌜ Tells (stated.passes (systemIn (now (table .entry))) limit room
         (partsAmong (now (treed .entry)) (now (reached .entry)) (grammarOf (now (table .entry))) (upFrom 0 count)))
-        (atEntry symbols graphs productions kids) r
+        (atEntry symbols graphs productions kids) (unsaid r)
         (atExit symbols graphs productions kids) ⌝ }
 {
     let mut now = steps::going_on(limit, 0);
@@ -313,15 +314,15 @@ fn circle_said(
     circles::circle_of(table, graphs, numbers::wide(p), root, nodes, marks)
 }
 
-// The report with the circle. Only the graphs of stored entries are read.
-fn with_circle(table: &[u8], graphs: &[u64], report: Report) -> Report
-    requires { ⌜ (refusal (now table) ≡ Good) × (report .entries ≤ length (now graphs)) ⌝ }
+// The report, with the circle. Only the graphs of stored entries are read.
+fn reported(table: &[u8], graphs: &[u64], ending: Ending) -> Report
+    requires { ⌜ (refusal (now table) ≡ Good) × (ending .entries ≤ length (now graphs)) ⌝ }
     ensures { λ r. ⌜ r ≡ reportWith
-        (circleOver (now (table .entry)) (take (report .entries) (now (graphs .entry))) (report .root) (report .answer)) report ⌝ }
+        (circleOver (now (table .entry)) (take (ending .entries) (now (graphs .entry))) (ending .root) (ending .answer)) (unsaid ending) ⌝ }
 {
-    let stored = numbers::wide(report.entries);
-    let answer = report.answer;
-    let root = report.root;
+    let stored = numbers::wide(ending.entries);
+    let answer = ending.answer;
+    let root = ending.root;
     let mut nodes = [0u8; NODES];
     let mut marks = [0u8; NODES];
     let len = circle_said(
@@ -335,12 +336,46 @@ fn with_circle(table: &[u8], graphs: &[u64], report: Report) -> Report
     let circle = Trail { nodes, marks, len };
     Report {
         answer,
-        closures: report.closures,
-        entries: report.entries,
-        passes: report.passes,
+        closures: ending.closures,
+        entries: ending.entries,
+        passes: ending.passes,
         root,
         circle,
     }
+}
+
+// The passes over the productions of a table that take part.
+fn passes_over(
+    table: &[u8],
+    limit: u32,
+    symbols: &mut [u16],
+    graphs: &mut [u64],
+    productions: &mut [u16],
+    kids: &mut [u16],
+) -> Ending
+    requires { ⌜ refusal (now table) ≡ Good ⌝ }
+    ensures { λ r. ⌜ Tells (stated.passes (systemIn (now (table .entry))) limit (roomOf (atEntry symbols graphs productions kids))
+        (taking (grammarOf (now (table .entry)))))
+        (atEntry symbols graphs productions kids) (unsaid r)
+        (atExit symbols graphs productions kids) ⌝ }
+{
+    let room = steps::room_of(symbols.len(), graphs.len(), productions.len(), kids.len());
+    let header = tables::header_of(table);
+    let count = numbers::wide(header.productions);
+    let treed = walks::treed_of(table);
+    let reached = walks::reached_of(table, &treed);
+    passes(
+        table,
+        count,
+        &treed,
+        &reached,
+        symbols,
+        graphs,
+        productions,
+        kids,
+        room,
+        limit,
+    )
 }
 
 // The circularity test of a table with at most `limit` closures. The stored entries are left at the front of the slices.
@@ -367,22 +402,6 @@ pub fn test(
             circle: search::no_trail(),
         };
     }
-    let room = steps::room_of(symbols.len(), graphs.len(), productions.len(), kids.len());
-    let header = tables::header_of(table);
-    let count = numbers::wide(header.productions);
-    let treed = walks::treed_of(table);
-    let reached = walks::reached_of(table, &treed);
-    let report = passes(
-        table,
-        count,
-        &treed,
-        &reached,
-        symbols,
-        graphs,
-        productions,
-        kids,
-        room,
-        limit,
-    );
-    with_circle(table, graphs, report)
+    let ending = passes_over(table, limit, symbols, graphs, productions, kids);
+    reported(table, graphs, ending)
 }

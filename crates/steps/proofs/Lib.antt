@@ -1,6 +1,4 @@
 -- Laws that belong to no one function.
 pub mod Held
-pub mod Judged
-pub mod Fit
-pub mod Trying
+pub mod Verdicts
 pub mod OneReading

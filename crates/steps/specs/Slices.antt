@@ -62,3 +62,7 @@ abbrev pub put : Slices → ℕ → Entry → Slices
 put σ n e =
     slices (set (σ .symbols) n (e .symbol)) (set (σ .graphs) n (e .graph)) (set (σ .productions) n (e .production))
     (sets (σ .kids) (7 * n) (e .kids))
+
+-- where the slices have room for one of this number
+abbrev pub putIn : Slices → ℕ → Entry → Slices
+putIn σ n e = cond (ltb n (roomOf σ)) (put σ n e) σ

@@ -1,22 +1,25 @@
 -- The six steps for one combination over the slices, where the closures that are left are counted down. Assumes nothing.
-use mathlib.Core.Bool.{Bool, true, false, cond}
-use mathlib.Core.List.{List, map}
+use mathlib.Core.Bool.{Bool, true, false}
+use mathlib.Core.List.{List}
 use mathlib.Core.Path.{_≡_}
-use Prim.Native.Nat.{ℕ, suc, _+_, _-_, _*_, _≤_, _<_}
-use lib.Dec.{leb, ltb, eqb}
-use lib.ListN.{length, getD, take}
-use Rattle.numbers.specs.Lists.{both, eachBelow, someBelow}
+use Prim.Native.Nat.{ℕ, _+_, _-_, min}
+use lib.Dec.{eqb}
+use lib.ListN.{length, getD}
+use Rattle.numbers.specs.Lists.{both, someBelow}
 use Rattle.grammar.specs.Table.{attributes}
-use Rattle.graph.specs.Rows.{placedFrom, closure, hasCircle, rootGraph}
+use Rattle.graph.specs.Rows.{hasCircle, rootGraph}
+use Rattle.compounds.specs.Combination.{closedIn}
 use Rattle.rules.specs.declared.Answer.{Answer}
 use Rattle.rules.specs.declared.Answer.the-variants.{Circular, OutOfSteps, OutOfRoom}
+use Rattle.rules.specs.declared.Entry.{Entry}
 use Rattle.rules.specs.Passes.{noRoot}
 use Rattle.steps.specs.declared.Course.the-variants.{Going, Stopped}
 use Rattle.steps.specs.declared.Run.{Run}
 use Rattle.steps.specs.declared.Task.{Task}
 use Rattle.steps.specs.declared.Verdict.{Verdict}
 use Rattle.steps.specs.declared.Verdict.the-variants.{Steps, Circle, Known, Full, New}
-use Rattle.steps.specs.Slices.{Slices, roomOf, put}
+use Rattle.steps.specs.declared.Judged.{Judged}
+use Rattle.steps.specs.Slices.{Slices, putIn}
 
 -- ---- a run that goes on, and one that has stopped
 
@@ -28,66 +31,71 @@ stops a root left stored = record { course = Stopped a; root = root; left = left
 
 -- ---- the tests
 
--- the closed rows over the graphs gs, where `rows` are a production's own
-abbrev pub closedOver : List ℕ → List ℕ → List ℕ
-closedOver rows gs = closure (take (attributes * suc (length gs)) (placedFrom attributes 1 gs rows))
-
--- the graphs of the picked entries
-abbrev pub graphsOf : List ℕ → Task → List ℕ → List ℕ
-graphsOf graphs k picked = map (λ i. getD graphs i 0) (take (k .count) picked)
-
--- each picked entry has its graph
-abbrev pub PickedIn : List ℕ → Task → List ℕ → Type 0
-PickedIn graphs k picked = (k .count ≤ 7) × ((i : ℕ) → i < k .count → getD picked i 0 < length graphs)
-
 -- the symbol with the graph is among the first n entries
 abbrev pub seenIn : List ℕ → List ℕ → ℕ → ℕ → ℕ → Bool
 seenIn symbols graphs y g n = someBelow (λ i. both (eqb (getD symbols i 0) y) (eqb (getD graphs i 0) g)) n
 
--- what is to be done with a combination, by the four tests of the six steps
-unfoldable pub verdict : Bool → Bool → Bool → Bool → ℕ → Verdict
-verdict true circle known full graph = Steps
-verdict false true known full graph = Circle
-verdict false false true full graph = Known
-verdict false false false true graph = Full
-verdict false false false false graph = New graph
+-- how many of `stored` entries have both a symbol and a graph
+abbrev pub least : List ℕ → List ℕ → ℕ → ℕ
+least symbols graphs stored = min stored (min (length symbols) (length graphs))
 
-unfoldable pub judged : Task → List ℕ → List ℕ → List ℕ → Run → List ℕ → Verdict
-judged k rows symbols graphs r picked =
-    let closed = closedOver rows (graphsOf graphs k picked) in
-    verdict (eqb (r .left) 0) (hasCircle closed) (seenIn symbols graphs (k .symbol) (rootGraph attributes closed) (r .stored))
-    (eqb (r .stored) (k .room)) (rootGraph attributes closed)
+-- what is to be done with a combination, by the four tests of the six steps
+unfoldable pub verdict : Bool → Bool → Bool → Bool → Verdict
+verdict true circle known full = Steps
+verdict false true known full = Circle
+verdict false false true full = Known
+verdict false false false true = Full
+verdict false false false false = New
+
+unfoldable pub judged : Task → List ℕ → List ℕ → List ℕ → ℕ → ℕ → List ℕ → Verdict
+judged k edges symbols graphs left stored picked =
+    let closed = closedIn edges graphs (k .count) picked in
+    verdict (eqb left 0) (hasCircle closed) (seenIn symbols graphs (k .symbol) (rootGraph attributes closed) (least symbols graphs stored))
+    (eqb stored (k .room))
+
+-- the verdict and, where the combination is new, its graph
+pub record Judges (k : Task) (edges symbols graphs : List ℕ) (left stored : ℕ) (picked : List ℕ) (j : Judged) : Type 0 where
+  pub verdict-is : j .verdict ≡ judged k edges symbols graphs left stored picked
+  pub graph-is : j .verdict ≡ New → j .graph ≡ rootGraph attributes (closedIn edges graphs (k .count) picked)
 
 -- ---- what is done
 
-unfoldable pub runAt : Verdict → Task → List ℕ → Run → Run
-runAt Steps k picked r = stops OutOfSteps noRoot (r .left) (r .stored)
-runAt Circle k picked r = stops (Circular (k .number)) picked (r .left - 1) (r .stored)
-runAt Known k picked r = goesOn (r .left - 1) (r .stored)
-runAt Full k picked r = stops OutOfRoom noRoot (r .left - 1) (r .stored)
-runAt (New graph) k picked r = goesOn (r .left - 1) (r .stored + 1)
+-- it counts the closure
+abbrev pub counts : Verdict → Bool
+counts Steps = false
+counts Circle = true
+counts Known = true
+counts Full = true
+counts New = true
 
-unfoldable pub slicesAt : Verdict → Task → List ℕ → Run → Slices → Slices
-slicesAt Steps k picked r σ = σ
-slicesAt Circle k picked r σ = σ
-slicesAt Known k picked r σ = σ
-slicesAt Full k picked r σ = σ
-slicesAt (New graph) k picked r σ =
-    put σ (r .stored) (record { symbol = k .symbol; graph = graph; production = k .number; kids = picked })
+-- it stores an entry
+abbrev pub stores : Verdict → Bool
+stores Steps = false
+stores Circle = false
+stores Known = false
+stores Full = false
+stores New = true
+
+unfoldable pub runAt : Verdict → ℕ → List ℕ → ℕ → ℕ → Run
+runAt Steps number picked left stored = stops OutOfSteps noRoot left stored
+runAt Circle number picked left stored = stops (Circular number) picked (left - 1) stored
+runAt Known number picked left stored = goesOn (left - 1) stored
+runAt Full number picked left stored = stops OutOfRoom noRoot (left - 1) stored
+runAt New number picked left stored = goesOn (left - 1) (stored + 1)
+
+abbrev pub entryOf : Task → ℕ → List ℕ → Entry
+entryOf k graph picked = record { symbol = k .symbol; graph = graph; production = k .number; kids = picked }
+
+unfoldable pub slicesAt : Verdict → Task → ℕ → List ℕ → ℕ → Slices → Slices
+slicesAt Steps k graph picked stored σ = σ
+slicesAt Circle k graph picked stored σ = σ
+slicesAt Known k graph picked stored σ = σ
+slicesAt Full k graph picked stored σ = σ
+slicesAt New k graph picked stored σ = putIn σ stored (entryOf k graph picked)
 
 -- ---- what is promised
 
--- each of the first n picked numbers is of a stored entry
-abbrev pub allStored : List ℕ → ℕ → ℕ → Bool
-allStored picked stored n = eachBelow (λ i. ltb (getD picked i 0) stored) n
-
--- a combination of at most seven stored entries, in a room that the slices hold
-unfoldable pub fits : ℕ → Task → List ℕ → Run → Bool
-fits room k picked r =
-    both (leb (k .count) 7)
-    (both (leb (r .stored) (k .room)) (both (leb (k .room) room) (allStored picked (r .stored) (k .count))))
-
--- From r and σ to q and τ the combination is tried. Where it does not fit nothing is done.
-pub record Tried (k : Task) (rows picked : List ℕ) (r : Run) (σ : Slices) (q : Run) (τ : Slices) : Type 0 where
-  pub run : q ≡ cond (fits (roomOf σ) k picked r) (runAt (judged k rows (σ .symbols) (σ .graphs) r picked) k picked r) r
-  pub slices : τ ≡ cond (fits (roomOf σ) k picked r) (slicesAt (judged k rows (σ .symbols) (σ .graphs) r picked) k picked r σ) σ
+-- From σ to τ the combination is tried, with the verdict v.
+pub record Tried (k : Task) (edges picked : List ℕ) (left stored : ℕ) (σ : Slices) (v : Verdict) (τ : Slices) : Type 0 where
+  pub verdict-is : v ≡ judged k edges (σ .symbols) (σ .graphs) left stored picked
+  pub slices : τ ≡ slicesAt v k (rootGraph attributes (closedIn edges (σ .graphs) (k .count) picked)) picked stored σ

@@ -1,25 +1,11 @@
 // Entries in four parallel lent slices of numbers: how many there is room for, what one of them holds, and the six steps for one
 // combination.
 ghost use mathlib.Core.Path.{_≡_};
-ghost use Prim.Native.Nat.{_+_, _≤_};
+ghost use Prim.Native.Nat.{_+_, _≤_, min};
 ghost use lib.ListN.{length, take, drop};
 ghost use lib.Seq.{sets};
-ghost use Rattle.grammar.specs.Table.{attributes};
-ghost use Rattle.graph.specs.Rows.{placedFrom, hasCircle, rootGraph};
-ghost use Rattle.steps.specs.Slices.{roomFor, entryIn, atEntry, atExit};
-ghost use Rattle.steps.specs.Step.{
-  goesOn,
-  stops,
-  PickedIn,
-  closedOver,
-  seenIn,
-  graphsOf,
-  judged,
-  allStored,
-  fits,
-  Tried,
-};
-use grammar::NODES;
+ghost use Rattle.steps.specs.Slices.{roomFor, entryIn, atEntry, atExit, putIn};
+ghost use Rattle.steps.specs.Step.{goesOn, stops, seenIn, Judges, stores, entryOf, Tried};
 use grammar::SLOTS;
 use rules::Answer;
 use rules::Entry;
@@ -40,21 +26,12 @@ pub struct Run {
     pub stored: usize,
 }
 
-// The production whose turn it is, and how many entries were stored when the turn began. Its own rows are lent beside it. A step looks
-// at neither `rights` nor `first`.
+// What the tries of a turn have in common: the number of its production, the left symbol, how many right symbols there are, and the room.
 pub struct Task {
     pub number: u16,
     pub symbol: u16,
     pub count: usize,
-    pub rights: [u16; SLOTS],
     pub room: usize,
-    pub first: usize,
-}
-
-// What one closure gives.
-struct Closed {
-    circle: bool,
-    graph: u64,
 }
 
 // What is to be done with one combination.
@@ -63,7 +40,13 @@ pub enum Verdict {
     Circle,
     Known,
     Full,
-    New(u64),
+    New,
+}
+
+// The graph that the closure gives stands beside the verdict: a wider one would be an array, which no enum holds.
+struct Judged {
+    verdict: Verdict,
+    graph: u64,
 }
 
 // How many entries slices of these lengths hold.
@@ -118,35 +101,6 @@ pub fn entry_of(
     }
 }
 
-// The rows of the compound graph: to the production's own, each picked entry's pairs at its occurrence. Occurrence 0 is the left symbol.
-fn compound(graphs: &[u64], rows: &mut [u64; NODES], task: Task, picked: [u16; SLOTS])
-    requires { ⌜ PickedIn (now graphs) task picked ⌝ }
-    ensures { λ _. ⌜ now (rows .exit) ≡ placedFrom attributes 1 (graphsOf (now (graphs .entry)) task picked) (now (rows .entry)) ⌝ }
-{
-    let count = task.count;
-    for k in 0..count {
-        let kid = numbers::wide(picked[k]);
-        let pairs = graphs[kid];
-        closures::place(rows, pairs, k + 1);
-    }
-}
-
-// One closure.
-fn closure(graphs: &[u64], own: &[u64; NODES], task: Task, picked: [u16; SLOTS]) -> Closed
-    requires { ⌜ PickedIn (now graphs) task picked ⌝ }
-    ensures { λ r. ⌜ (r .circle ≡ hasCircle (closedOver (now (own .entry)) (graphsOf (now (graphs .entry)) task picked)))
-        × (r .graph ≡ rootGraph attributes (closedOver (now (own .entry)) (graphsOf (now (graphs .entry)) task picked))) ⌝ }
-{
-    let occurrences = task.count + 1;
-    let mut rows = *own;
-    compound(graphs, &mut rows, task, picked);
-    closures::close(&mut rows, occurrences);
-    Closed {
-        circle: closures::has_circle(&rows, occurrences),
-        graph: closures::root_graph(&rows),
-    }
-}
-
 // Whether the symbol with the graph is among the first `stored` entries.
 fn seen(symbols: &[u16], graphs: &[u64], stored: usize, symbol: u16, graph: u64) -> bool
     requires { ⌜ (stored ≤ length (now symbols)) × (stored ≤ length (now graphs)) ⌝ }
@@ -164,73 +118,88 @@ fn seen(symbols: &[u16], graphs: &[u64], stored: usize, symbol: u16, graph: u64)
     false
 }
 
+// How many of `stored` entries have both a symbol and a graph.
+fn compared(symbols: usize, graphs: usize, stored: usize) -> usize
+    ensures { λ r. ⌜ r ≡ min stored (min symbols graphs) ⌝ }
+{
+    numbers::smaller(stored, numbers::smaller(symbols, graphs))
+}
+
 // Steps 1 to 5.
 fn judge(
     symbols: &[u16],
     graphs: &[u64],
-    own: &[u64; NODES],
+    edges: &[u8],
     task: Task,
-    picked: [u16; SLOTS],
-    run: Run,
-) -> Verdict
-    requires { ⌜ (run .stored ≤ length (now symbols)) × (run .stored ≤ length (now graphs)) × PickedIn (now graphs) task picked ⌝ }
-    ensures { λ r. ⌜ r ≡ judged task (now (own .entry)) (now (symbols .entry)) (now (graphs .entry)) run picked ⌝ }
+    picked: &[u16; SLOTS],
+    left: u32,
+    stored: usize,
+) -> Judged
+    ensures { λ r. ⌜ Judges task (now (edges .entry)) (now (symbols .entry)) (now (graphs .entry)) left stored (now (picked .entry)) r ⌝ }
 {
-    if run.left == 0 {
-        return Verdict::Steps;
+    if left == 0 {
+        return Judged {
+            verdict: Verdict::Steps,
+            graph: 0,
+        };
     }
-    let made = closure(graphs, own, task, picked);
+    let made = closures::closure(edges, graphs, picked, task.count);
+    let graph = made.graph;
     if made.circle {
-        return Verdict::Circle;
+        return Judged {
+            verdict: Verdict::Circle,
+            graph,
+        };
     }
-    if seen(symbols, graphs, run.stored, task.symbol, made.graph) {
-        return Verdict::Known;
+    let known = compared(symbols.len(), graphs.len(), stored);
+    if seen(symbols, graphs, known, task.symbol, graph) {
+        return Judged {
+            verdict: Verdict::Known,
+            graph,
+        };
     }
-    if run.stored == task.room {
-        return Verdict::Full;
+    if stored == task.room {
+        return Judged {
+            verdict: Verdict::Full,
+            graph,
+        };
     }
-    Verdict::New(made.graph)
-}
-
-// Whether the first `count` numbers are of stored entries.
-fn all_stored(picked: [u16; SLOTS], count: usize, stored: usize) -> bool
-    requires { ⌜ count ≤ 7 ⌝ }
-    ensures { λ r. ⌜ r ≡ allStored picked stored count ⌝ }
-{
-    let mut k = count;
-    while 0 < k {
-        k -= 1;
-        let kid = numbers::wide(picked[k]);
-        if stored <= kid {
-            return false;
-        }
+    Judged {
+        verdict: Verdict::New,
+        graph,
     }
-    true
-}
-
-// Whether the task, the run and the combination are such that slices with this room hold them.
-fn fitting(room: usize, task: Task, picked: [u16; SLOTS], run: Run) -> bool
-    ensures { λ r. ⌜ r ≡ fits room task picked run ⌝ }
-{
-    if SLOTS < task.count {
-        return false;
-    }
-    if task.room < run.stored {
-        return false;
-    }
-    if room < task.room {
-        return false;
-    }
-    all_stored(picked, task.count, run.stored)
 }
 
 // Stores the seven slots of an entry.
-fn put_row(kids: &mut [u16], at: usize, picked: [u16; SLOTS])
-    requires { ⌜ at + 7 ≤ length (now kids) ⌝ }
-    ensures { λ _. ⌜ now (kids .exit) ≡ sets (now (kids .entry)) at picked ⌝ }
+fn put_row(kids: &mut [u16], at: usize, picked: &[u16])
+    requires { ⌜ (at + 7 ≤ length (now kids)) × (length (now picked) ≡ 7) ⌝ }
+    ensures { λ _. ⌜ now (kids .exit) ≡ sets (now (kids .entry)) at (now (picked .entry)) ⌝ }
 {
     for k in 0..SLOTS {
         kids[at + k] = picked[k];
+    }
+}
+
+// Stores an entry, where the slices have room for one of its number.
+fn put_entry(
+    symbols: &mut [u16],
+    graphs: &mut [u64],
+    productions: &mut [u16],
+    kids: &mut [u16],
+    task: Task,
+    graph: u64,
+    picked: &[u16; SLOTS],
+    stored: usize,
+)
+    ensures { λ _. ⌜ atExit symbols graphs productions kids
+        ≡ putIn (atEntry symbols graphs productions kids) stored (entryOf task graph (now (picked .entry))) ⌝ }
+{
+    let room = room_of(symbols.len(), graphs.len(), productions.len(), kids.len());
+    if stored < room {
+        symbols[stored] = task.symbol;
+        graphs[stored] = graph;
+        productions[stored] = task.number;
+        put_row(kids, SLOTS * stored, picked);
     }
 }
 
@@ -246,7 +215,8 @@ pub fn going_on(left: u32, stored: usize) -> Run
     }
 }
 
-fn stopped(answer: Answer, root: [u16; SLOTS], left: u32, stored: usize) -> Run
+// A run that has stopped.
+pub fn stopped(answer: Answer, root: [u16; SLOTS], left: u32, stored: usize) -> Run
     ensures { λ r. ⌜ r ≡ stops answer root left stored ⌝ }
 {
     Run {
@@ -257,39 +227,48 @@ fn stopped(answer: Answer, root: [u16; SLOTS], left: u32, stored: usize) -> Run
     }
 }
 
-// The six steps for one combination. Where the slices do not hold what is said to be stored, nothing is done.
+fn is_new(verdict: Verdict) -> bool
+    ensures { λ r. ⌜ r ≡ stores verdict ⌝ }
+{
+    match verdict {
+        Verdict::Steps => false,
+        Verdict::Circle => false,
+        Verdict::Known => false,
+        Verdict::Full => false,
+        Verdict::New => true,
+    }
+}
+
+// The six steps for one combination of the first `stored` entries, where `left` closures are left.
 pub fn try_one(
     symbols: &mut [u16],
     graphs: &mut [u64],
     productions: &mut [u16],
     kids: &mut [u16],
-    own: &[u64; NODES],
+    edges: &[u8],
     task: Task,
-    picked: [u16; SLOTS],
-    run: Run,
-) -> Run
-    ensures { λ r. ⌜ Tried task (now (own .entry)) picked run
+    picked: &[u16; SLOTS],
+    left: u32,
+    stored: usize,
+) -> Verdict
+    ensures { λ r. ⌜ Tried task (now (edges .entry)) (now (picked .entry)) left stored
         (atEntry symbols graphs productions kids) r
         (atExit symbols graphs productions kids) ⌝ }
 {
-    let room = room_of(symbols.len(), graphs.len(), productions.len(), kids.len());
-    if !fitting(room, task, picked, run) {
-        return run;
+    let judged = judge(symbols, graphs, edges, task, picked, left, stored);
+    let verdict = judged.verdict;
+    let graph = judged.graph;
+    if is_new(verdict) {
+        put_entry(
+            symbols,
+            graphs,
+            productions,
+            kids,
+            task,
+            graph,
+            picked,
+            stored,
+        );
     }
-    let verdict = judge(symbols, graphs, own, task, picked, run);
-    let left = run.left;
-    let stored = run.stored;
-    match verdict {
-        Verdict::Steps => stopped(Answer::OutOfSteps, [0u16; SLOTS], left, stored),
-        Verdict::Circle => stopped(Answer::Circular(task.number), picked, left - 1, stored),
-        Verdict::Known => going_on(left - 1, stored),
-        Verdict::Full => stopped(Answer::OutOfRoom, [0u16; SLOTS], left - 1, stored),
-        Verdict::New(graph) => {
-            symbols[stored] = task.symbol;
-            graphs[stored] = graph;
-            productions[stored] = task.number;
-            put_row(kids, SLOTS * stored, picked);
-            going_on(left - 1, stored + 1)
-        }
-    }
+    verdict
 }

@@ -9,8 +9,10 @@ use Rattle.grammar.specs.declared.Production.{Production}
 use Rattle.grammar.specs.Grammar.{production}
 use Rattle.grammar.specs.Table.{grammarOf}
 use Rattle.graph.specs.declared.Trail.{Trail}
+use Rattle.graph.specs.Rows.{placedFrom}
 use Rattle.graph.specs.Search.{circleOf}
 use Rattle.graph.specs.Trails.{circleTrail}
+use Rattle.compounds.specs.Combination.{ownIn, pickedGraphs}
 use Rattle.circles.specs.Ring.{rightsIn, masksIn, rowsIn, ringIn}
 use Rattle.circles.proofs.circle_of.Statement.{statement}
 use Rattle.circles.proofs.circle_of.Tie as tie
@@ -33,14 +35,17 @@ wide-requires c κs = search needs
 smaller-requires : tie.Need-smaller-requires
 smaller-requires c κs = search needs
 
-rows-of-requires : tie.Need-rows-of-requires
-rows-of-requires c κs = search needs
+run-of-requires : tie.Need-run-of-requires
+run-of-requires c κs = search needs
+
+compound-requires : tie.Need-compound-requires
+compound-requires c κs = search needs
 
 masks-of-requires : tie.Need-masks-of-requires
 masks-of-requires c κs = search needs
 
 add-circle : tie.Need-add-circle
-add-circle c = omega (arith, c .before .before .before .smaller .ensures)
+add-circle c = omega (arith, c .before .before .before .before .before .before .smaller .ensures)
 
 circle-requires : tie.Need-circle-requires
 circle-requires c κs = search needs
@@ -48,12 +53,17 @@ circle-requires c κs = search needs
 returns : tie.Need-returns
 returns c =
     let masks = c .before .before .before .before .before in
-    let small = masks .before .before in
+    let made = masks .before in
+    let run = made .before .before .before in
+    let small = run .before in
     let s = small .before .before .before .before .before in
-    ring-made (s .args .table .now) (s .args .graphs .now) (s .args .number) (small .smaller .result) _ (s .args .root) _ _ _ _
+    ring-made (s .args .table .now) (s .args .graphs .now) (s .args .number) (small .smaller .result) _ (s .args .t4) _ _ _ _
     (small .before .before .production-of .ensures)
     (small .smaller .ensures ∙ ap (λ (n : ℕ). min n 7) (small .before .wide .ensures))
-    refl (masks .before .rows-of .ensures) (masks .masks-of .ensures) (c .circle .ensures)
+    refl
+    (made .compound .ensures
+    ∙ ap (λ (l : List ℕ). placedFrom 8 1 (pickedGraphs (s .args .graphs .now) (small .smaller .result) (s .args .t4)) (ownIn l)) (run .run-of .ensures))
+    (masks .masks-of .ensures) (c .circle .ensures)
 
 pub circle-of-spec : {M : Type 1} → statement M
 circle-of-spec =
@@ -62,7 +72,8 @@ circle-of-spec =
     production-of-requires
     wide-requires
     smaller-requires
-    rows-of-requires
+    run-of-requires
+    compound-requires
     masks-of-requires
     add-circle
     circle-requires

@@ -12,8 +12,8 @@ use Rattle.compounds.proofs.add_edge.Tie as tie
 mul-rows : tie.Need-mul-rows
 mul-rows c = search needs
 
-element-copy-out-rows : tie.Need-element-copy-out-rows
-element-copy-out-rows c = search needs
+slice-read-rows : tie.Need-slice-read-rows
+slice-read-rows c = search needs
 
 shl-rows : tie.Need-shl-rows
 shl-rows c = search needs
@@ -21,8 +21,11 @@ shl-rows c = search needs
 mul-rows-2 : tie.Need-mul-rows-2
 mul-rows-2 c = search needs
 
-element-write-rows : tie.Need-element-write-rows
-element-write-rows c = search needs
+slice-write-rows : tie.Need-slice-write-rows
+slice-write-rows c = search needs
+
+same-length : tie.Need-same-length
+same-length c = search needs
 
 returns : tie.Need-returns
 returns c =
@@ -45,10 +48,11 @@ add-edge-spec =
     tie.close
     (tie.spec
     mul-rows
-    element-copy-out-rows
+    slice-read-rows
     shl-rows
     mul-rows-2
-    element-write-rows
+    slice-write-rows
+    same-length
     returns
     returns-2
     returns-3)

@@ -14,7 +14,7 @@ use Rattle.passes.specs.Slices.{Slices, slices}
 use Rattle.steps.specs.Step.{goesOn}
 use Rattle.passes.specs.Follow.{Follows, Kept, Roomy, partsAmong}
 use Rattle.passes.proofs.Following.{kept-then, kept-roomy}
-use Rattle.passes.proofs.Ending.{roomy-start, tells, Reached, reached-start, reached-more, ends-stop, ends-done}
+use Rattle.passes.proofs.Reaching.{roomy-start, tells, Reached, reached-start, reached-more, ends-stop, ends-done}
 use Rattle.passes.proofs.passes.Statement.{statement}
 use Rattle.passes.proofs.passes.Tie as tie
 

@@ -8,17 +8,12 @@ use Rattle.passes.proofs.task_of.Tie as tie
 wide-requires : tie.Need-wide-requires
 wide-requires c κs = search needs
 
-cast-t7 : tie.Need-cast-t7
-cast-t7 c = omega (arith, c .before .before .pre)
+cast-t5 : tie.Need-cast-t5
+cast-t5 c = omega (arith, c .before .pre)
 
 returns : tie.Need-returns
 unfolding taskOf
 returns c = cc (c .wide .ensures)
 
 pub task-of-spec : {M : Type 1} → statement M
-task-of-spec =
-    tie.close
-    (tie.spec
-    wide-requires
-    cast-t7
-    returns)
+task-of-spec = tie.close (tie.spec wide-requires cast-t5 returns)

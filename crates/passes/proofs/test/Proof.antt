@@ -4,17 +4,16 @@ use mathlib.Core.List.{List}
 use Prim.Native.Nat.{ℕ}
 use borrow.Author.Needs.{needs}
 use native.Mathlib.Omega.{arith}
-use Rattle.numbers.specs.Lists.{upFrom}
-use Rattle.grammar.specs.declared.Header.{Header}
 use Rattle.grammar.specs.declared.Checked.the-variants.{Good}
-use Rattle.grammar.specs.Table.{P, grammarOf}
+use Rattle.grammar.specs.Table.{grammarOf}
 use Rattle.grammar.specs.Refusal.{refusal}
+use Rattle.parts.specs.Rule.{taking}
 use Rattle.rules.specs.declared.Report.{Report}
 use Rattle.rules.specs.Passes.{Outcome, passes}
 use Rattle.rules.specs.Test.{systemIn}
 use Rattle.rules.proofs.Stored.{Counted, counted-passes-in}
-use Rattle.passes.specs.Slices.{Slices, slices, Tells}
-use Rattle.passes.specs.Follow.{partsAmong}
+use Rattle.passes.specs.Slices.{Slices, slices, roomOf, Tells}
+use Rattle.passes.specs.Follow.{unsaid}
 use Rattle.passes.proofs.Circles.{saying-told}
 use Rattle.passes.proofs.Told.{entries-fit}
 use Rattle.passes.proofs.Testing.{test-taken, test-refused, tells-refused, tells-same}
@@ -39,67 +38,48 @@ returns c =
 enum-told : tie.Need-enum-told
 enum-told c = search needs
 
-room-of-requires : tie.Need-room-of-requires
-room-of-requires c κs = search needs
+-- the table is taken
+good : (c : tie.After-enum-told) → refusal (c .before .before .before .before .before .before .before .before .args .table .now) ≡ Good
+good c = sym (c .before .before .check .ensures) ∙ c .enum-told .given .1
 
-header-of-requires : tie.Need-header-of-requires
-header-of-requires c κs = search needs
-
-wide-requires : tie.Need-wide-requires
-wide-requires c κs = search needs
-
-treed-of-requires : tie.Need-treed-of-requires
-treed-of-requires c κs = search needs
-
-reached-of-requires : tie.Need-reached-of-requires
-reached-of-requires c κs = search needs
-
--- what is known when the passes begin
-module _ (c : tie.After-treed-of) where
-  abbrev start : tie.Start
-  start = c .before .before .before .before .before .before .before .before .before .before .before .before
-
-  good : refusal (start .args .table .now) ≡ Good
-  good = sym (c .before .before .before .before .before .before .check .ensures) ∙ c .before .before .before .before .enum-told .given .1
-
-  counted : c .before .wide .result ≡ P (start .args .table .now)
-  counted = c .before .wide .ensures ∙ ap (λ (h : Header). h .productions) (c .before .before .header-of .ensures)
-
-passes-requires : tie.Need-passes-requires
-passes-requires c κs =
-    let a = c .before .before .before .before .before .before .before .before in
-    (good a, counted a, a .before .before .before .room-of .ensures)
+passes-over-requires : tie.Need-passes-over-requires
+passes-over-requires c κs = good (c .before .before .before .before)
 
 -- what the passes have left
-module _ (c : tie.After-passes) where
-  abbrev a : tie.After-treed-of
-  a = c .before .before .before .before .before .before .before .before .before
+module _ (c : tie.After-passes-over) where
+  abbrev taken : tie.After-enum-told
+  taken = c .before .before .before .before .before
+
+  abbrev start : tie.Start
+  start = taken .before .before .before .before .before .before .before .before
 
   abbrev bs : List ℕ
-  bs = start a .args .table .now
+  bs = start .args .table .now
 
   abbrev σ : Slices
-  σ = slices (start a .args .symbols .now) (start a .args .graphs .now) (start a .args .productions .now) (start a .args .kids .now)
+  σ = slices (start .args .symbols .now) (start .args .graphs .now) (start .args .productions .now) (start .args .kids .now)
 
   abbrev τ : Slices
-  τ =
-      slices (c .passes .last .1 .1 .1 .1 .0) (c .passes .last .1 .1 .1 .1 .1 .0) (c .passes .last .1 .1 .1 .1 .1 .1 .0) (c .passes .last .1 .1 .1 .1 .1 .1 .1 .0)
+  τ = slices (c .passes-over .last .1 .1 .0) (c .passes-over .last .1 .1 .1 .0) (c .passes-over .last .1 .1 .1 .1 .0) (c .passes-over .last .1 .1 .1 .1 .1 .0)
 
   abbrev o : Outcome
-  o =
-      passes (systemIn bs) (start a .args .limit) (a .before .before .before .room-of .result)
-      (partsAmong (a .treed-of .result) (c .before .before .before .before .before .before .before .reached-of .result) (grammarOf bs) (upFrom 0 (a .before .wide .result)))
+  o = passes (systemIn bs) (start .args .limit) (roomOf σ) (taking (grammarOf bs))
 
-  told : Tells o σ (c .passes .result) τ
-  told = c .passes .ensures
+  abbrev r : Report
+  r = unsaid (c .passes-over .result)
 
-  stored : Counted (a .before .before .before .room-of .result) o
-  stored = counted-passes-in bs (start a .args .limit) (a .before .before .before .room-of .result) _
+  told : Tells o σ r τ
+  told = c .passes-over .ensures
 
-with-circle-requires : tie.Need-with-circle-requires
-with-circle-requires c κs =
-    let p = c .before .before .before .before .before .before .before .before .before in
-    (good (a p), omega (arith, ap (λ (r : Report). r .entries) (told p .report), stored p .count, entries-fit (o p) (σ p) (p .passes .result) (τ p) (stored p .sound .slots) (told p) .1))
+  stored : Counted (roomOf σ) o
+  stored = counted-passes-in bs (start .args .limit) (roomOf σ) _
+
+reported-requires : tie.Need-reported-requires
+reported-requires c κs =
+    let p = c .before .before .before .before .before .before .before .before .before in (
+      good (taken p),
+      omega (arith, ap (λ (x : Report). x .entries) (told p .report), stored p .count, entries-fit (o p) (σ p) (r p) (τ p) (stored p .sound .slots) (told p) .1),
+    )
 
 same-length : tie.Need-same-length
 same-length c = search needs
@@ -116,9 +96,8 @@ same-length-4 c = search needs
 returns-2 : tie.Need-returns-2
 returns-2 c =
     let p = c .before .before .before .before .before .before .before .before .before .before in
-    tells-same
-    (test-taken (bs p) (start (a p) .args .limit) _ _ (a p .treed-of .result) _ (σ p) (good (a p)) (counted (a p)) (a p .before .before .before .room-of .ensures) (a p .treed-of .ensures) (p .before .before .before .before .before .before .before .reached-of .ensures))
-    (saying-told (bs p) (o p) (σ p) (p .passes .result) (τ p) (stored p .count) (told p) (c .with-circle .ensures))
+    tells-same (test-taken (bs p) (start p .args .limit) (roomOf (σ p)) (good (taken p)))
+    (saying-told (bs p) (o p) (σ p) (r p) (τ p) (stored p .count) (told p) (c .reported .ensures))
 
 pub test-spec : {M : Type 1} → statement M
 test-spec =
@@ -129,13 +108,8 @@ test-spec =
     no-trail-requires
     returns
     enum-told
-    room-of-requires
-    header-of-requires
-    wide-requires
-    treed-of-requires
-    reached-of-requires
-    passes-requires
-    with-circle-requires
+    passes-over-requires
+    reported-requires
     same-length
     same-length-2
     same-length-3

@@ -31,8 +31,8 @@ loop-holds c = (search needs, refl, rw add-zero)
 mul-kids : tie.Need-mul-kids Inv-loop μ-loop
 mul-kids c = search needs
 
-array-read-kids : tie.Need-array-read-kids Inv-loop μ-loop
-array-read-kids c = search needs
+shared-slice-read-kids : tie.Need-shared-slice-read-kids Inv-loop μ-loop
+shared-slice-read-kids c = omega (arith, c .before .loop-test .taken, c .before .before .before .pre .1)
 
 add-kids : tie.Need-add-kids Inv-loop μ-loop
 add-kids c = search needs
@@ -41,7 +41,7 @@ mul-kids-2 : tie.Need-mul-kids-2 Inv-loop μ-loop
 mul-kids-2 c = search needs
 
 slice-write-kids : tie.Need-slice-write-kids Inv-loop μ-loop
-slice-write-kids c = omega arith
+slice-write-kids c = omega (arith, c .before .loop-test .taken, c .before .before .loop .inv .1, c .before .before .before .pre .0)
 
 add-k : tie.Need-add-k Inv-loop μ-loop
 add-k c = search needs
@@ -51,18 +51,18 @@ loop-less c = search needs
 
 loop-again : tie.Need-loop-again Inv-loop μ-loop
 loop-again c =
-    let a = c .before .before .args in
-    let l = c .before .loop in
-    (omega arith, simp length-set (l .inv .1), one-stored (l .kids) (a .at) (l .k) (a .t3) (omega arith) ∙ l .inv .2)
+    let s = c .before .before .before in
+    let l = c .before .before .loop in
+    (omega arith, simp length-set (l .inv .1), one-stored (l .kids) (s .args .at) (l .k) (s .args .picked .now) (omega (arith, c .before .loop-test .taken, s .pre .1)) ∙ l .inv .2)
 
 same-length : tie.Need-same-length Inv-loop μ-loop
 same-length c = c .before .loop .inv .1
 
 returns : tie.Need-returns Inv-loop μ-loop
 returns c =
-    let a = c .before .before .args in
+    let s = c .before .before in
     let l = c .before .loop in
-    ap (sets (l .kids) (a .at + l .k)) (sym (drop-of-length-le (a .t3) {i = l .k} (omega arith))) ∙ l .inv .2
+    ap (sets (l .kids) (s .args .at + l .k)) (sym (drop-of-length-le (s .args .picked .now) {i = l .k} (omega (arith, c .loop-test .left, s .pre .1)))) ∙ l .inv .2
 
 pub put-row-spec : {M : Type 1} → statement M
 put-row-spec =
@@ -72,7 +72,7 @@ put-row-spec =
     μ-loop
     loop-holds
     mul-kids
-    array-read-kids
+    shared-slice-read-kids
     add-kids
     mul-kids-2
     slice-write-kids

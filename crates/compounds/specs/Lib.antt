@@ -1,0 +1,2 @@
+-- The closure of one combination.
+pub mod Combination
