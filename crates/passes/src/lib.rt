@@ -2,18 +2,17 @@
 ghost use mathlib.Core.Path.{_≡_};
 ghost use mathlib.Core.Bool.{true};
 ghost use mathlib.Core.List.{[], _∷_};
-ghost use Prim.Native.Nat.{_-_, _≤_, _<_};
-ghost use lib.ListN.{length, set, take};
+ghost use Prim.Native.Nat.{_≤_, _<_};
+ghost use lib.ListN.{length, take};
 ghost use Rattle.numbers.specs.Lists.{upFrom};
 ghost use Rattle.grammar.specs.declared.Checked.the-variants.{Good};
-ghost use Rattle.grammar.specs.Grammar.{production};
 ghost use Rattle.grammar.specs.Table.{P, grammarOf};
 ghost use Rattle.grammar.specs.Refusal.{refusal};
 ghost use Rattle.graph.specs.Trails.{trail, noTrail};
 ghost use Rattle.parts.specs.Rule.{taking};
 ghost use Rattle.rules.specs.Passes as stated;
 ghost use Rattle.rules.specs.Test.{systemIn, reportWith};
-ghost use Rattle.passes.specs.Slices.{lent, atEntry, atExit, roomOf, Tells, Tested, entriesTo};
+ghost use Rattle.passes.specs.Slices.{lent, atEntry, atExit, roomOf, Tells, Tested};
 ghost use Rattle.steps.specs.Step.{goesOn, counts, runAt};
 ghost use Rattle.turns.specs.Turning.{ofSymbol, Numbers, Firsts};
 ghost use Rattle.passes.specs.Follow.{endingOf, unsaid, Follows, Roomy, InTurn, over, taskOf, combosIn, halts, storedAt, partsAmong, circleOver};
@@ -39,7 +38,7 @@ pub struct Ending {
     pub passes: u16,
 }
 
-// Whether the passes end with it.
+// Whether a verdict ends the passes.
 fn stops(verdict: Verdict) -> bool
     ensures { λ r. ⌜ r ≡ halts verdict ⌝ }
 {
@@ -52,7 +51,7 @@ fn stops(verdict: Verdict) -> bool
     }
 }
 
-// How many entries are stored after it.
+// How many entries are stored after a verdict.
 fn stored_after(verdict: Verdict, stored: usize) -> usize
     requires { ⌜ stored ≤ 4096 ⌝ }
     ensures { λ r. ⌜ r ≡ storedAt verdict stored ⌝ }
@@ -66,7 +65,7 @@ fn stored_after(verdict: Verdict, stored: usize) -> usize
     }
 }
 
-// The run after it, where `left` closures were left before.
+// The run after a verdict, where `left` closures were left before.
 fn run_after(verdict: Verdict, number: u16, picked: [u16; SLOTS], left: u32, stored: usize) -> Run
     requires { ⌜ (counts verdict ≡ true → 1 ≤ left) × (stored ≤ 4096) ⌝ }
     ensures { λ r. ⌜ r ≡ runAt verdict number picked left stored ⌝ }
