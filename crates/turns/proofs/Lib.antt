@@ -2,4 +2,6 @@
 pub mod Odometer
 pub mod Moving
 pub mod Turning
+pub mod Skipping
+pub mod Newer
 pub mod OneReading

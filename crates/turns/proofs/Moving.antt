@@ -8,7 +8,9 @@ use lib.Dec.{ltb}
 use lib.ListN.{getD, set}
 use borrow.Author.Tests.{lt-ltb, le-ltb}
 use Rattle.candidates.specs.Next.{nextOf}
+use Rattle.turns.specs.declared.Newest.{Newest}
 use Rattle.turns.specs.Moves.{Moved, moved, firstsTo, movedTo, Found}
+use Rattle.turns.specs.Skips.{newestTo}
 
 module _ (symbols rights : List ℕ) (first : ℕ) where
   pub firsts-none : (k : ℕ) (xs : List ℕ) → k ≤ 0 → firstsTo symbols rights first k xs ≡ moved true xs
@@ -66,3 +68,29 @@ module _ (symbols rights : List ℕ) (first : ℕ) where
 
 pub found-is : {m : Moved} {b : Bool} {xs : List ℕ} → moved b xs ≡ m → Found m b xs
 found-is e = record { more-is = ap (λ (m : Moved). m .more) e; numbers-are = ap (λ (m : Moved). m .numbers) e }
+
+-- ---- the last place with a candidate from a number on
+
+module _ (symbols rights : List ℕ) (old first : ℕ) where
+  pub newest-none : (k : ℕ) → k ≤ 0 → newestTo symbols rights old first k ≡ record { some = false; place = 0; entry = 0 }
+  unfolding newestTo
+  newest-none k l =
+      let z : k ≡ 0 = omega arith in
+      rw z
+
+  module _ (k : ℕ) (some : 0 < k) (from end y e : ℕ) (begin : from ≡ old) (same : end ≡ first) (right : y ≡ getD rights (k - 1) 0)
+      (next : e ≡ nextOf symbols y from end) where
+    newer : e ≡ nextOf symbols (getD rights (k - 1) 0) old first
+    newer = next ∙ ap₂ (λ (z i : ℕ). nextOf symbols z i end) right begin ∙ ap (nextOf symbols (getD rights (k - 1) 0) old) same
+
+    pub newest-hit : e < end → newestTo symbols rights old first k ≡ record { some = true; place = k - 1; entry = e }
+    unfolding newestTo
+    newest-hit l =
+        let z : k ≡ suc (k - 1) = omega arith in
+        ap (newestTo symbols rights old first) z ∙ rw (← newer, lt-ltb e first (omega (arith, l, same)))
+
+    pub newest-back : end ≤ e → newestTo symbols rights old first k ≡ newestTo symbols rights old first (k - 1)
+    unfolding newestTo
+    newest-back l =
+        let z : k ≡ suc (k - 1) = omega arith in
+        ap (newestTo symbols rights old first) z ∙ rw (← newer, le-ltb e first (omega (arith, l, same)))

@@ -16,7 +16,7 @@ use Rattle.numbers.proofs.Ranges.{left-some, left-none}
 use Rattle.rules.specs.Passes.{prefixed, combinations}
 use Rattle.turns.specs.Combos.{under, candidatesFrom, combosOf, combosFrom, partFrom, behind, First}
 
-under-append : (chosen : List ℕ) (a b : List (List ℕ)) → under chosen (a ++ b) ≡ under chosen a ++ under chosen b
+pub under-append : (chosen : List ℕ) (a b : List (List ℕ)) → under chosen (a ++ b) ≡ under chosen a ++ under chosen b
 unfolding under
 under-append chosen a b = map-append (λ c. chosen ++ c) a b
 
@@ -29,6 +29,13 @@ pub under-nothing : (cs : List (List ℕ)) → under [] cs ≡ cs
 unfolding under
 under-nothing [] = refl
 under-nothing (c ∷ cs) = ap (λ (l : List (List ℕ)). c ∷ l) (under-nothing cs)
+
+pub prefixed-append : (a b : List ℕ) (rest : List (List ℕ)) → prefixed (a ++ b) rest ≡ prefixed a rest ++ prefixed b rest
+unfolding prefixed
+prefixed-append [] b rest = refl
+prefixed-append (x ∷ a) b rest =
+    ap (λ (l : List (List ℕ)). map (λ c. x ∷ c) rest ++ l) (prefixed-append a b rest)
+    ∙ sym (append-assoc (map (λ c. x ∷ c) rest) (prefixed a rest) (prefixed b rest))
 
 prefixed-cons : (x : ℕ) (xs : List ℕ) (rest : List (List ℕ)) → prefixed (x ∷ xs) rest ≡ map (λ c. x ∷ c) rest ++ prefixed xs rest
 unfolding prefixed
@@ -63,11 +70,11 @@ module _ (test : ℕ → ℕ → Bool) (n places : ℕ) where
       let none = left-none i places (omega arith) in
       rw (none, append-nil, e)
 
-  all-part : (i : ℕ) (picked : List ℕ) → i < places → all i picked ≡ part i 0 picked
+  pub all-part : (i : ℕ) (picked : List ℕ) → i < places → all i picked ≡ part i 0 picked
   unfolding combosFrom combosOf partFrom combinations
   all-part i picked l = rw (left-some i places l, add-one i)
 
-  part-hit : (i e : ℕ) (picked : List ℕ) → e < n → test i e ≡ true → i < length picked
+  pub part-hit : (i e : ℕ) (picked : List ℕ) → e < n → test i e ≡ true → i < length picked
       → part i e picked ≡ all (suc i) (set picked i e) ++ part i (suc e) picked
   unfolding partFrom combosFrom
   part-hit i e picked l h m =
@@ -80,7 +87,7 @@ module _ (test : ℕ → ℕ → Bool) (n places : ℕ) where
       ∙ ap (λ (c : List ℕ). under c (combosOf test n places (suc i))) (sym (take-suc-set picked i e m)))
       (ap (λ (j : ℕ). part i j picked) (add-one e))
 
-  part-over : (i e f : ℕ) (picked : List ℕ) → e ≤ f → f ≤ n → ((j : ℕ) → e ≤ j → j < f → test i j ≡ false) → part i e picked ≡ part i f picked
+  pub part-over : (i e f : ℕ) (picked : List ℕ) → e ≤ f → f ≤ n → ((j : ℕ) → e ≤ j → j < f → test i j ≡ false) → part i e picked ≡ part i f picked
   unfolding partFrom
   part-over i e f picked l u h =
       let m : n - e ≡ (f - e) + (n - f) = omega arith in
@@ -103,7 +110,7 @@ module _ (test : ℕ → ℕ → Bool) (n places : ℕ) where
   after-set (suc i) picked j v l =
       rw (take-set-le i picked j v (omega arith), getD-set-other picked j i v 0 (λ z. omega (arith, z, l)), after-set i picked j v (omega arith))
 
-  after-pick : (i : ℕ) (picked : List ℕ) (e : ℕ) → i < length picked
+  pub after-pick : (i : ℕ) (picked : List ℕ) (e : ℕ) → i < length picked
       → after (suc i) (set picked i e) ≡ part i (suc e) picked ++ after i picked
   unfolding behind partFrom
   after-pick i picked e l =

@@ -19,7 +19,7 @@ use Rattle.candidates.specs.Next.{nextOf, Next}
 use Rattle.candidates.proofs.Seeking.{next-of}
 use Rattle.turns.specs.Combos.{candidatesFrom, combosOf, behind, First}
 use Rattle.turns.specs.Moves.{Moved, moved, firstsTo, movedTo}
-use Rattle.turns.specs.Turning.{ofSymbol, Numbers, Firsts, Begins, GoesOn}
+use Rattle.turns.specs.Turning.{ofSymbol, Numbers, Firsts, MovesAt, Begins, GoesOn}
 use Rattle.turns.proofs.Odometer.{after-none, moves-on, goes-back, keep-over}
 
 -- ---- the numbers
@@ -51,7 +51,7 @@ zeros (suc (suc (suc (suc (suc (suc (suc zero))))))) l = refl
 zeros (suc (suc (suc (suc (suc (suc (suc (suc n)))))))) l = absurd (omega arith)
 
 -- what stands at j where e is set at i
-set-at : (P : ℕ → Type 0) (xs : List ℕ) (i j e : ℕ) → i < length xs → (j ≡ i → P e) → ((j ≡ i → ⊥) → P (getD xs j 0)) → P (getD (set xs i e) j 0)
+pub set-at : (P : ℕ → Type 0) (xs : List ℕ) (i j e : ℕ) → i < length xs → (j ≡ i → P e) → ((j ≡ i → ⊥) → P (getD xs j 0)) → P (getD (set xs i e) j 0)
 set-at P xs i j e l here other = go (eqb j i) refl
   where
     go : (b : Bool) → eqb j i ≡ b → P (getD (set xs i e) j 0)
@@ -60,7 +60,7 @@ set-at P xs i j e l here other = go (eqb j i) refl
         rw (z, getD-set-same xs i e 0 l) (here z)
     go false q = rw (getD-set-other xs i j e 0 (eqb-false j i q)) (other (eqb-false j i q))
 
-numbers-set : (places first : ℕ) (xs : List ℕ) (i e : ℕ) → places ≤ 7 → i < places → e < first → Numbers places first xs
+pub numbers-set : (places first : ℕ) (xs : List ℕ) (i e : ℕ) → places ≤ 7 → i < places → e < first → Numbers places first xs
     → Numbers places first (set xs i e)
 numbers-set places first xs i e few l x h =
     let long = numbers-long places first xs few h in
@@ -78,13 +78,13 @@ module _ (symbols₀ symbols rights : List ℕ) (first places : ℕ) (few : plac
   after = behind test first places
 
   -- the next candidate, by the test
-  record Candidate (i from e : ℕ) : Type 0 where
-    after-it : from ≤ e
-    within : e ≤ first
-    none : (j : ℕ) → from ≤ j → j < e → test i j ≡ false
-    hit : e < first → test i e ≡ true
+  pub record Candidate (i from e : ℕ) : Type 0 where
+    pub after-it : from ≤ e
+    pub within : e ≤ first
+    pub none : (j : ℕ) → from ≤ j → j < e → test i j ≡ false
+    pub hit : e < first → test i e ≡ true
 
-  candidate : (i from : ℕ) → from ≤ first → Candidate i from (nextOf symbols (getD rights i 0) from first)
+  pub candidate : (i from : ℕ) → from ≤ first → Candidate i from (nextOf symbols (getD rights i 0) from first)
   candidate i from l =
       let w = next-of symbols (getD rights i 0) from first l held in
       record {
@@ -101,6 +101,7 @@ module _ (symbols₀ symbols rights : List ℕ) (first places : ℕ) (few : plac
       numbers : Numbers places first (m .numbers)
       next : m .more ≡ true → after k xs ≡ take places (m .numbers) ∷ after places (m .numbers)
       none : m .more ≡ false → after k xs ≡ []
+      moved-at : m .more ≡ true → MovesAt test first places xs k (m .numbers)
 
     -- place i moves on, or begins again
     module _ (i : ℕ) (xs : List ℕ) (low : i < places) (h : Numbers places first xs)
@@ -133,12 +134,38 @@ module _ (symbols₀ symbols rights : List ℕ) (first places : ℕ) (few : plac
             numbers = numbers-set places first xs i e few low x h;
             next = λ y. moves-on test first places i e xs low (omega (arith, few, long)) (w .after-it) x (w .hit x) (w .none) f;
             none = λ y. absurd (false≢true (sym y));
+            moved-at =
+                λ y. record {
+                  place = i;
+                  low = low;
+                  within = omega arith;
+                  before = λ j m. getD-set-other xs i j e 0 (λ z. omega (arith, z, m));
+                  further = rw (getD-set-same xs i e 0 (omega (arith, low, few, long))) (w .after-it);
+                  hit = rw (getD-set-same xs i e 0 (omega (arith, low, few, long))) (w .hit x);
+                  again =
+                      λ j a b. rw (getD-set-other xs i j e 0 (λ z. omega (arith, z, a))) (f j a b);
+                };
           }
 
       back : first ≤ e → (m : Moved) → Goes i again m → Goes (suc i) xs m
       back x m g =
           let b = goes-back test first places i xs (getD firsts i 0) e x (h .below i low) (λ j a b. w .none j a (omega (arith, b, x))) in
-          record { numbers = g .numbers; next = λ y. b ∙ g .next y; none = λ y. b ∙ g .none y }
+          record {
+            numbers = g .numbers;
+            next = λ y. b ∙ g .next y;
+            none = λ y. b ∙ g .none y;
+            moved-at =
+                λ y. let v = g .moved-at y in
+                record {
+                  place = v .place;
+                  low = v .low;
+                  within = omega (arith, v .within);
+                  before = λ j l. v .before j l ∙ getD-set-other xs i j (getD firsts i 0) 0 (λ z. omega (arith, z, l, v .within));
+                  further = rw (← getD-set-other xs i (v .place) (getD firsts i 0) 0 (λ z. omega (arith, z, v .within))) (v .further);
+                  hit = v .hit;
+                  again = v .again;
+                };
+          }
 
       step : Goes i again (movedTo symbols rights firsts first i again) → Goes (suc i) xs (movedTo symbols rights firsts first (suc i) xs)
       unfolding movedTo
@@ -151,13 +178,19 @@ module _ (symbols₀ symbols rights : List ℕ) (first places : ℕ) (few : plac
     goes : (k : ℕ) (xs : List ℕ) → k ≤ places → Numbers places first xs
         → ((j : ℕ) → k ≤ j → j < places → First test first places j (getD xs j 0)) → Goes k xs (movedTo symbols rights firsts first k xs)
     unfolding movedTo
-    goes zero xs l h f = record { numbers = h; next = λ q. absurd (false≢true q); none = λ q. after-none test first places xs }
+    goes zero xs l h f =
+        record {
+          numbers = h;
+          next = λ q. absurd (false≢true q);
+          none = λ q. after-none test first places xs;
+          moved-at = λ q. absurd (false≢true q);
+        }
     goes (suc i) xs l h f = step i xs l h f (goes i (again i xs l h f) (omega (arith, l)) (again-numbers i xs l h f) (again-firsts i xs l h f))
 
     pub goes-on : (picked : List ℕ) → Numbers places first picked → GoesOn test first places picked (movedTo symbols rights firsts first places picked)
     goes-on picked h =
         let w = goes places picked (omega arith) h (λ j a b. absurd (omega (arith, a, b))) in
-        record { numbers = w .numbers; next = w .next; none = w .none }
+        record { numbers = w .numbers; next = w .next; none = w .none; moved-at = w .moved-at }
 
   -- ---- the first combination
 

@@ -2,3 +2,4 @@
 pub mod Combos
 pub mod Moves
 pub mod Turning
+pub mod Skips

@@ -22,6 +22,16 @@ module _ (test : ℕ → ℕ → Bool) (first places : ℕ) where
   abbrev pub Firsts : List ℕ → Type 0
   Firsts numbers = (j : ℕ) → j < places → First test first places j (getD numbers j 0)
 
+  -- From xs to ys a place below k moves on to a further candidate: those before it stay, and those after it stand at their first.
+  pub record MovesAt (xs : List ℕ) (k : ℕ) (ys : List ℕ) : Type 0 where
+    pub place : ℕ
+    pub low : place < places
+    pub within : place < k
+    pub before : (j : ℕ) → j < place → getD ys j 0 ≡ getD xs j 0
+    pub further : getD xs place 0 < getD ys place 0
+    pub hit : test place (getD ys place 0) ≡ true
+    pub again : (j : ℕ) → place < j → j < places → First test first places j (getD ys j 0)
+
   -- where a turn begins: at the first combination, or there is none
   pub record Begins (m : Moved) : Type 0 where
     pub numbers : m .more ≡ true → Numbers places first (m .numbers)
@@ -33,3 +43,4 @@ module _ (test : ℕ → ℕ → Bool) (first places : ℕ) where
     pub numbers : Numbers places first (m .numbers)
     pub next : m .more ≡ true → behind test first places places picked ≡ take places (m .numbers) ∷ behind test first places places (m .numbers)
     pub none : m .more ≡ false → behind test first places places picked ≡ []
+    pub moved-at : m .more ≡ true → MovesAt picked places (m .numbers)
