@@ -9,7 +9,7 @@ use Rattle.grammar.specs.Grammar.{Grammar, symbol, production}
 use Rattle.trees.specs.Tree.{Tree, node, Kids, nil, cons, Instance, here, under, instances, kidInstances}
 use Rattle.trees.specs.Address.{address, attribute, Kid, first, later, Subtree, whole, down, HasValue}
 use Rattle.numbers.proofs.Members.{upFrom-mem}
-use Rattle.trees.proofs.Lists.{distinct-upFrom, distinct-map, distinct-append}
+use Rattle.numbers.proofs.Distinct.{distinct-upFrom, distinct-map, distinct-append}
 use Rattle.trees.proofs.Values.{ith, value-root, value-under}
 
 module _ (g : Grammar) where

@@ -1,39 +1,11 @@
--- Members of lists, and lists with no two equal elements. Assumes nothing.
-use mathlib.Core.List.{List, [], _∷_, _++_, map, List·Memᴰ, List·Memᴰ·head, List·Memᴰ·tail, List·Memᴰ·append-cases, Memᴰ·cast, Memᴰ·of-map}
-use mathlib.Core.Logic.{⊎-elim}
-use mathlib.Core.Path.{_≡_, refl, sym}
+-- What holds at each number of a list. Assumes nothing.
+use mathlib.Core.List.{List, [], _∷_, List·Memᴰ, List·Memᴰ·head, List·Memᴰ·tail}
+use mathlib.Core.Path.{refl}
 use Prim.Native.Nat.{ℕ, zero, suc}
-use native.Mathlib.Omega.{arith}
 use lib.ListN.{getD}
-use Rattle.numbers.specs.Lists.{upFrom, Distinct}
-use Rattle.numbers.proofs.Members.{upFrom-mem}
-
--- ---- members
 
 -- what holds of each member and of what stands past the end holds at each number
 pub getD-each : {A : Type 0} (P : A → Type 0) (l : List A) (d : A) → P d → ((x : A) → List·Memᴰ x l → P x) → (i : ℕ) → P (getD l i d)
 getD-each P [] d h f i = h
 getD-each P (x ∷ l) d h f zero = f x (List·Memᴰ·head refl)
 getD-each P (x ∷ l) d h f (suc i) = getD-each P l d h (λ y m. f y (List·Memᴰ·tail m)) i
-
--- ---- no two equal
-
-pub distinct-upFrom : (i n : ℕ) → Distinct (upFrom i n)
-unfolding upFrom
-distinct-upFrom i zero = tt
-distinct-upFrom i (suc n) = (λ m. absurd (omega (arith, upFrom-mem (suc i) n m .0)), distinct-upFrom (suc i) n)
-
-pub distinct-map :
-    {A B : Type 0} (f : A → B) (l : List A)
-    → ((x y : A) → List·Memᴰ x l → List·Memᴰ y l → f x ≡ f y → x ≡ y) → Distinct l → Distinct (map f l)
-distinct-map f [] inj d = tt
-distinct-map f (x ∷ l) inj (n, d) = (
-  λ m. let r = Memᴰ·of-map f l m in n (Memᴰ·cast (inj x (r .0) (List·Memᴰ·head refl) (List·Memᴰ·tail (r .1)) (sym (r .2))) (r .1)),
-  distinct-map f l (λ y z k m. inj y z (List·Memᴰ·tail k) (List·Memᴰ·tail m)) d,
-)
-
-pub distinct-append :
-    {A : Type 0} (l r : List A) → Distinct l → Distinct r → ((x : A) → List·Memᴰ x l → ¬ List·Memᴰ x r) → Distinct (l ++ r)
-distinct-append [] r d e h = e
-distinct-append (x ∷ l) r (n, d) e h =
-    (λ m. ⊎-elim n (h x (List·Memᴰ·head refl)) (List·Memᴰ·append-cases l m), distinct-append l r d e (λ y m. h y (List·Memᴰ·tail m)))
