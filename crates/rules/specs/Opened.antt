@@ -7,9 +7,10 @@ use Rattle.graph.specs.Rows.{link, own, placedTo, placedFrom, compound, through
 use Rattle.graph.specs.Opened.{openedSearch}
 use Rattle.parts.specs.Opened.{openedParts}
 use Rattle.rules.specs.Passes.{numbered, seven, candidates, prefixed, combinations, known, stopIf, goOnIf, try, tries, turn, pass, passesFrom, passes}
+use Rattle.rules.specs.Fresh.{began, stale, unstale, freshTurn, freshPass, freshPassesFrom, freshPasses}
 use Rattle.rules.specs.Test.{systemOf, afterCheck, test}
 
 -- to name this on an `unfolding` line is to open every rule
 unfoldable pub opened : Unit {0}
-unfolding both upFrom every keep below symbolAt symbolIn productionIn edgeIn edgesIn grammarOf countsOk offsetsOk symbolOk productionOk allowed occurrencesOk attributesOk targetOk inOrder orRule edgeBreaks refusedAt firstBad andCheck refusal link own placedTo placedFrom compound through step stepsTo closure circleTo rootTo openedSearch openedParts numbered seven candidates prefixed combinations known stopIf goOnIf try tries turn pass passesFrom passes systemOf afterCheck test
+unfolding both upFrom every keep below symbolAt symbolIn productionIn edgeIn edgesIn grammarOf countsOk offsetsOk symbolOk productionOk allowed occurrencesOk attributesOk targetOk inOrder orRule edgeBreaks refusedAt firstBad andCheck refusal link own placedTo placedFrom compound through step stepsTo closure circleTo rootTo openedSearch openedParts numbered seven candidates prefixed combinations known stopIf goOnIf try tries turn pass passesFrom passes began stale unstale freshTurn freshPass freshPassesFrom freshPasses systemOf afterCheck test
 opened = tt
