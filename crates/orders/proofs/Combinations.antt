@@ -1,15 +1,17 @@
--- Combinations of entries: they stay where entries are added, and those of a turn are all combinations of its candidates. Assumes nothing.
+-- Combinations of entries: they stay where entries are added, and those of a turn are all combinations of its candidates, each once.
+-- Assumes nothing.
 use mathlib.Core.Path.{_≡_, refl, sym, ap, _∙_, subst}
 use mathlib.Core.Logic.{_⊎_, inl, inr}
-use mathlib.Core.List.{List, [], _∷_, _++_, map, List·Memᴰ, List·Memᴰ·head, List·Memᴰ·tail, List·Memᴰ·not-nil, Memᴰ·append-left, Memᴰ·append-right, Memᴰ·map, Memᴰ·of-map, List·Memᴰ·append-cases}
+use mathlib.Core.List.{List, [], _∷_, _++_, map, List·Memᴰ, List·Memᴰ·head, List·Memᴰ·tail, List·Memᴰ·not-nil, Memᴰ·append-left, Memᴰ·append-right, Memᴰ·map, Memᴰ·of-map, Memᴰ·cast, List·Memᴰ·append-cases}
 use Prim.Native.Nat.{ℕ, suc, _<_}
 use native.Mathlib.Omega.{arith}
 use lib.Dec.{eqb}
 use lib.ListN.{length, List·getD-append}
 use lib.Seq.{take-append-seam}
 use borrow.Author.Tests.{eqb-true, eq-eqb}
-use Rattle.numbers.specs.Lists.{upFrom}
+use Rattle.numbers.specs.Lists.{upFrom, Distinct}
 use Rattle.numbers.proofs.Members.{at-cons, keep-at, keep-mem, upFrom-at, upFrom-mem}
+use Rattle.numbers.proofs.Distinct.{distinct-upFrom, distinct-map, distinct-append, distinct-keep}
 use Rattle.rules.specs.declared.Entry.{Entry}
 use Rattle.rules.specs.Passes.{System, noEntry, entry, graphs, seven, candidates, prefixed, combinations, counting}
 use Rattle.orders.specs.Stored.{FitsIn, Combination}
@@ -112,3 +114,32 @@ combinations-fit es c (b ∷ bs) m =
     let u = upFrom-mem 0 (length es) (k .0) in
     subst (λ z. Combination es (length es) z (b ∷ bs)) (sym (r .joined))
     (omega (arith, u .1), eqb-true (entry es (r .first) .symbol) b (k .1), combinations-fit es (r .others) bs (r .there))
+
+-- ---- each combination of a turn is there once
+abbrev firstOf : List ℕ → ℕ
+firstOf [] = 0
+firstOf (x ∷ l) = x
+
+abbrev restOf : List ℕ → List ℕ
+restOf [] = []
+restOf (x ∷ l) = l
+
+distinct-prefixed : (xs : List ℕ) (rest : List (List ℕ)) → Distinct xs → Distinct rest → Distinct (prefixed xs rest)
+unfolding prefixed
+distinct-prefixed [] rest d e = tt
+distinct-prefixed (x ∷ xs) rest (n, d) e =
+    distinct-append (map (λ c. x ∷ c) rest) (prefixed xs rest) (distinct-map (λ c. x ∷ c) rest (λ a b k m q. ap restOf q) e)
+    (distinct-prefixed xs rest d e)
+    (λ z m k.
+    let a = Memᴰ·of-map (λ c. x ∷ c) rest m in
+    let b = prefixed-mem xs rest k in
+    n (Memᴰ·cast (ap firstOf (a .2 ∙ b .joined)) (b .here)))
+
+pub distinct-combinations : (f : ℕ → List ℕ) → ((a : ℕ) → Distinct (f a)) → (bs : List ℕ) → Distinct (combinations (map f bs))
+unfolding combinations
+distinct-combinations f h [] = (λ m. List·Memᴰ·not-nil m, tt)
+distinct-combinations f h (b ∷ bs) = distinct-prefixed (f b) (combinations (map f bs)) (h b) (distinct-combinations f h bs)
+
+pub distinct-candidates : (es : List Entry) (b : ℕ) → Distinct (candidates es b)
+unfolding candidates
+distinct-candidates es b = distinct-keep _ (upFrom 0 (length es)) (distinct-upFrom 0 (length es))

@@ -1,4 +1,4 @@
--- The rules' way to store is a lawful mode: the list of entries, all of them live, and step 4 looks for the same graph. Assumes nothing.
+-- The rules' way to store is a lawful mode. Assumes nothing.
 use mathlib.Core.Path.{_≡_, refl, sym, ap, _∙_}
 use mathlib.Core.Bool.{Bool, true, false, _||_, true≢false, false≢true}
 use mathlib.Core.List.{List, [], _∷_, _++_}
@@ -13,7 +13,8 @@ use Rattle.numbers.proofs.Decides.{Decides, refuted, eq-decides, both-decides}
 use Rattle.rules.specs.declared.Entry.{Entry}
 use Rattle.rules.specs.Passes.{System, noEntry, entry, graphs, known}
 use Rattle.orders.specs.Stored.{Different, PairStored}
-use Rattle.orders.specs.Modes.{Judged, round, needless, fresh, newEntry, Mode, Covered, Later, Shown, circle, settled, added, Lawful}
+use Rattle.orders.specs.Modes.{newEntry, Covered, Later, Shown, circle, settled, added, Lawful}
+use Rattle.orders.specs.Plain.{judged, judge, plain}
 use Rattle.orders.proofs.Combinations.{entry-stays}
 
 -- ---- step 4
@@ -96,42 +97,14 @@ different-more es e d h i j l m p q = go (decLt i (length es)) (decLt j (length 
     go (no a) (no b) = end i l a ∙ sym (end j m b)
 
 -- ---- the mode
--- steps 3 and 4 by their tests
-unfoldable pub judged : Bool → Bool → List Entry → Judged (List Entry)
-judged true old t = round
-judged false true t = needless
-judged false false t = fresh t
-
 module _ (W : System) where
-  abbrev pub judge : ℕ → List ℕ → List Entry → Judged (List Entry)
-  judge p c es =
-      judged (W .circle p (graphs es c)) (known (W .left p) (W .graph p (graphs es c)) es) (es ++ (newEntry W p c es ∷ []))
-
-  pub fresh-adds : (a b : Bool) (t u : List Entry) → judged a b t ≡ fresh u → u ≡ t
-  unfolding judged
-  fresh-adds true b t u e = let z : _≡_ {A = ℕ} 0 1 = cc in absurd (omega arith)
-  fresh-adds false true t u e = let z : _≡_ {A = ℕ} 0 1 = cc in absurd (omega arith)
-  fresh-adds false false t u e = cc
-
-  abbrev pub plain : Mode W
-  plain = record {
-    Store = List Entry;
-    start = [];
-    entries = λ es. es;
-    Live = λ es i. Unit {0};
-    Over = λ h g. h ≡ g;
-    judge = judge;
-    none = refl;
-    adds = λ p c s t e. fresh-adds (W .circle p (graphs s c)) (known (W .left p) (W .graph p (graphs s c)) s) _ t e;
-  }
-
-  pub holds-covered : (es : List Entry) (a g : ℕ) → PairStored es a g → Covered plain es a g
+  pub holds-covered : (es : List Entry) (a g : ℕ) → PairStored es a g → Covered (plain W) es a g
   holds-covered es a g h = record { number = h .number; among = (h .among, tt); symbol = h .symbol; over = h .graph }
 
-  pub covered-holds : (es : List Entry) (a g : ℕ) → Covered plain es a g → PairStored es a g
+  pub covered-holds : (es : List Entry) (a g : ℕ) → Covered (plain W) es a g → PairStored es a g
   covered-holds es a g h = record { number = h .number; among = h .among .0; symbol = h .symbol; graph = h .over }
 
-  pub shown : (p : ℕ) (c : List ℕ) (es : List Entry) → Different es → Shown plain Different p c es (judge p c es)
+  pub shown : (p : ℕ) (c : List ℕ) (es : List Entry) → Different es → Shown (plain W) Different p c es (judge W p c es)
   unfolding judged
   shown p c es d = go (W .circle p (graphs es c)) refl (known (W .left p) g es) refl
     where
@@ -141,7 +114,7 @@ module _ (W : System) where
       e : Entry
       e = newEntry W p c es
 
-      later : Later plain es (es ++ (e ∷ []))
+      later : Later (plain W) es (es ++ (e ∷ []))
       later =
           record {
             more = e ∷ [];
@@ -151,7 +124,7 @@ module _ (W : System) where
           }
 
       go : (a : Bool) → W .circle p (graphs es c) ≡ a → (b : Bool) → known (W .left p) g es ≡ b
-          → Shown plain Different p c es (judged a b (es ++ (e ∷ [])))
+          → Shown (plain W) Different p c es (judged a b (es ++ (e ∷ [])))
       go true x b y = circle x
       go false x true y = settled (record { calm = x; covered = holds-covered es (W .left p) g (known-holds (W .left p) g es y) })
       go false x false y =
@@ -159,7 +132,7 @@ module _ (W : System) where
           added x (λ h. new (covered-holds es (W .left p) g h)) (different-more es e d new) later
           (holds-covered (es ++ (e ∷ [])) (W .left p) g (holds-new es e))
 
-  abbrev pub plain-lawful : Lawful plain
+  abbrev pub plain-lawful : Lawful (plain W)
   plain-lawful = record {
     Sound = Different;
     begins = λ i j l m p q. absurd (omega arith);

@@ -67,11 +67,6 @@ module _ {W : System} (M : Mode W) where
     pub later : Later s t
     pub settles : (c : List ℕ) → FitsIn (M .entries s) (Candidate s) c (W .rights p) → Settled t p c
 
-  -- turns of the productions of a list, in its order
-  pub data Turns : List ℕ → M .Store → M .Store → Type 0 where
-    none : {s : M .Store} → Turns [] s s
-    then : {p : ℕ} {ps : List ℕ} {s t u : M .Store} → Turned p s t → Turns ps t u → Turns (p ∷ ps) s u
-
   -- what a closure has shown, where sound stores stay sound
   pub data Shown (Sound : M .Store → Type 0) (p : ℕ) (c : List ℕ) (s : M .Store) : Judged (M .Store) → Type 0 where
     circle : W .circle p (graphs (M .entries s) c) ≡ true → Shown Sound p c s round

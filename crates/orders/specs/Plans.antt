@@ -1,8 +1,8 @@
 -- A run that tries what a plan chooses by what is stored: any order of turns, and any combinations left out. Assumes nothing.
-use mathlib.Core.Bool.{Bool, true, false, cond}
+use mathlib.Core.Bool.{Bool, true, false}
 use mathlib.Core.List.{List, [], _∷_}
-use Prim.Native.Nat.{ℕ, zero, suc}
-use lib.Dec.{leb, eqb}
+use Prim.Native.Nat.{ℕ, suc}
+use lib.Dec.{leb}
 use lib.ListN.{length}
 use Rattle.rules.specs.declared.Answer.{Answer}
 use Rattle.rules.specs.declared.Answer.the-variants.{Noncircular, Circular, OutOfSteps, OutOfRoom}
@@ -45,23 +45,8 @@ module _ {W : System} (M : Mode W) where
   abbrev pub outcomeOf : End (M .Store) → Outcome
   outcomeOf e = outcome (e .answer) (e .root) (record { entries = M .entries (e .store); made = e .made }) (e .begun)
 
--- ---- the plan of passes whose turns try what `offers` offers
+-- ---- the tries of one turn, and then f
 module _ {Store : Type 0} where
   unfoldable pub triesPlan : ℕ → ℕ → List (List ℕ) → (Store → Plan Store) → Store → Plan Store
   triesPlan n p [] f s = f s
   triesPlan n p (c ∷ cs) f s = next n p c (triesPlan n p cs f)
-
-  module _ (offers : ℕ → Store → List (List ℕ)) where
-    unfoldable pub turnsPlan : ℕ → List ℕ → (Store → Plan Store) → Store → Plan Store
-    turnsPlan n [] f s = f s
-    turnsPlan n (p ∷ ps) f s = triesPlan n p (offers p s) (turnsPlan n ps f) s
-
-    module _ (size : Store → ℕ) where
-      -- after the pass number n, which began with k entries: over where it stored nothing
-      abbrev pub afterPass : ℕ → ℕ → (Store → Plan Store) → Store → Plan Store
-      afterPass n k f s = cond (eqb (size s) k) (end n) (f s)
-
-      -- `fuel` more passes at the most, where n have begun
-      unfoldable pub passesPlan : ℕ → List ℕ → ℕ → Store → Plan Store
-      passesPlan zero ps n s = end n
-      passesPlan (suc fuel) ps n s = turnsPlan (suc n) ps (afterPass (suc n) (size s) (passesPlan fuel ps (suc n))) s
