@@ -1,4 +1,6 @@
 // Whether the test over a row of records gives what the test over parallel slices gave.
+#![tactic(auto)]
+
 ghost use Rattle.std.specs.Prelude.{true, ◌↔◌, ◌≡◌, ◌≤◌, min};
 ghost use Rattle.rules.specs.Test as stated;
 ghost use Rattle.passes.specs.Slices.{at_entry, Tells};

@@ -1,4 +1,6 @@
 // What `circ` prints: the test of a table, and the text of what comes back.
+#![tactic(auto)]
+
 ghost use Rattle.passes.specs.Slices.{at_entry, at_exit};
 ghost use Rattle.answers.specs.Answered.{TestPrinted};
 

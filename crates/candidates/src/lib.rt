@@ -1,4 +1,6 @@
 // The candidates of a right symbol among the stored entries.
+#![tactic(auto)]
+
 ghost use Rattle.std.specs.Prelude.{◌≡◌};
 ghost use Rattle.candidates.specs.Next.{next_of};
 

@@ -1,4 +1,6 @@
 // The check of a table.
+#![tactic(auto)]
+
 ghost use Rattle.std.specs.Prelude.{◌≡◌};
 ghost use Rattle.grammar.specs.Refusal.{refusal};
 ghost use Rattle.grammar.specs.Steps.{handed_up, symbols_check, productions_check, edges_check};

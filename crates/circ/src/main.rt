@@ -1,4 +1,6 @@
 // Reads a grammar table from standard input and prints the report of its circularity test.
+#![tactic(auto)]
+
 ghost use Rattle.std.specs.Prelude.{◌≡◌, ◌*◌, ◌≤◌, length};
 ghost use Rattle.print.specs.Texts.{bytes_for};
 ghost use Rattle.circ.specs.Whole.{room, table_bytes, Reported, NoMoreThan};

@@ -1,4 +1,6 @@
 // The circle of a root: its compound graph is made once more, since by the end of a test its rows are closed.
+#![tactic(auto)]
+
 ghost use Rattle.std.specs.Prelude.{◌≡◌, min, ◌≤◌};
 ghost use Rattle.grammar.specs.Grammar.{symbol, symbol_at};
 ghost use Rattle.grammar.specs.Table.{grammar_of};

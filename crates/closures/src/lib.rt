@@ -1,4 +1,6 @@
 // The closure of a compound graph, and what is read off it. Who closes a graph finds here too what makes its rows.
+#![tactic(auto)]
+
 ghost use Rattle.std.specs.Prelude.{◌≡◌, ◌*◌, ◌+◌, ◌<◌, ◌≤◌, min, length, take};
 ghost use Rattle.grammar.specs.Table.{attributes};
 ghost use Rattle.graph.specs.Rows.{through, has_circle, root_graph};

@@ -1,4 +1,6 @@
 // Compound graphs as rows of bits: a row for each attribute of the eight occurrences that a production has at most, and in it a bit for each.
+#![tactic(auto)]
+
 ghost use Rattle.std.specs.Prelude.{◌≡◌, ◌+◌, ◌<◌, length, get_or, replicate};
 ghost use Rattle.grammar.specs.Table.{attributes, node_in, edges_in};
 ghost use Rattle.graph.specs.Rows.{node, link, own, placed, placed_from};

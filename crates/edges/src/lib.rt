@@ -1,4 +1,6 @@
 // An edge of a table, held to its rules.
+#![tactic(auto)]
+
 ghost use Rattle.std.specs.Prelude.{◌≡◌, ◌<◌, leb, ltb};
 ghost use Rattle.numbers.specs.Number.{bit};
 ghost use Rattle.numbers.specs.Lists.{both, below};

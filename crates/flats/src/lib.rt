@@ -1,4 +1,6 @@
 // What Rust and C are given as numbers: what a check says, a path or a circle, and a report.
+#![tactic(auto)]
+
 ghost use Rattle.std.specs.Prelude.{◌≡◌, ◌++◌, ◌≤◌, length, get_or, take, drop};
 ghost use Rattle.graph.specs.Parts.{most_nodes};
 ghost use Rattle.graph.specs.Trails.{trail};

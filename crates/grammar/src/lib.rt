@@ -1,4 +1,5 @@
 // The numbers and the records that a grammar table is made of, and what reading one gives: what the rules and the code share.
+#![tactic(auto)]
 
 // Of a table, in bytes: its header, and a record of each kind.
 pub const HEADER_BYTES: usize = 24;

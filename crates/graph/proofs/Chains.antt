@@ -36,7 +36,7 @@ path_plus rows x y (z ∷ zs) h = rw h.0 at (chain_plus rows z zs y h.1)
 -- through each node between
 chain_through : (rows : List ℕ) (x : ℕ) (zs : List ℕ) (y z : ℕ) → Chain rows x zs y → Memᴰ z zs
     → Plus (Linked rows) x z × Plus (Linked rows) z y
-chain_through rows x [] y z h m = absurd (Memᴰ.not_nil m)
+chain_through rows x [] y z h m = absurd (Memᴰ.not-nil m)
 chain_through rows x (u ∷ zs) y z h m =
     at_cons (λ (v : ℕ). Plus (Linked rows) x v × Plus (Linked rows) v y)
     (one h.0, chain_plus rows u zs y h.1)
@@ -64,7 +64,7 @@ chain_reach rows x (z ∷ zs) y h = (z, h.0, chain_reach rows z zs y h.1)
 -- each node after s, on a circle of n links from s, is on one of n links from itself: so s is the smallest, if it is of these
 pub around : (rows : List ℕ) (n s : ℕ) → ((y : ℕ) → Reach rows n y y → s ≤ y)
     → (a x : ℕ) (ys : List ℕ) → Reach rows a s x → Chain rows x ys s → a + suc (length ys) ≡ n → (y : ℕ) → Memᴰ y ys → s ≤ y
-around rows n s h a x [] p q e y m = absurd (Memᴰ.not_nil m)
+around rows n s h a x [] p q e y m = absurd (Memᴰ.not-nil m)
 around rows n s h a x (z ∷ ys) p q e y m =
     let p' : Reach rows (a + 1) s z = reach_join rows a 1 s x z p (z, q.0, refl) in
     let e' : suc (length ys) + (a + 1) ≡ n = omega arith in
@@ -77,7 +77,7 @@ around rows n s h a x (z ∷ ys) p q e y m =
 
 -- each has a row
 chain_low : (rows : List ℕ) (x : ℕ) (zs : List ℕ) (y : ℕ) → Chain rows x zs y → (z : ℕ) → Memᴰ z (x ∷ zs) → z < length rows
-chain_low rows x [] y h z m = at_cons (λ (u : ℕ). u < length rows) (leads_lt rows x y h) (λ k. absurd (Memᴰ.not_nil k)) m
+chain_low rows x [] y h z m = at_cons (λ (u : ℕ). u < length rows) (leads_lt rows x y h) (λ k. absurd (Memᴰ.not-nil k)) m
 chain_low rows x (u ∷ zs) y h z m = at_cons (λ (u : ℕ). u < length rows) (leads_lt rows x u h.0) (chain_low rows u zs y h.1 z) m
 
 pub is_path_low : (rows : List ℕ) (x y : ℕ) (c : List ℕ) → IsPath rows x y c → (z : ℕ) → Memᴰ z c → z < length rows

@@ -74,7 +74,7 @@ length_own w (e ∷ es) rows = length_own w es (link (node w e.source) (node w e
 pub own_leads : (w : ℕ) (es : List Edge) (rows : List ℕ) → NodesBelow w (length rows) es
     → (i j : ℕ) → Leads (bits (own w es rows)) i j ↔ (Leads (bits rows) i j ⊎ OwnEdge w es i j)
 unfolding own
-own_leads w [] rows below i j = (inl, ⊎_elim (λ h. h) (λ h. absurd (Memᴰ.not_nil h.given)))
+own_leads w [] rows below i j = (inl, ⊎_elim (λ h. h) (λ h. absurd (Memᴰ.not-nil h.given)))
 own_leads w (e ∷ es) rows below i j =
     let s = node w e.source in
     let t = node w e.target in

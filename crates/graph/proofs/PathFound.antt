@@ -143,7 +143,7 @@ module _ (rows : List ℕ) (x y : ℕ) where
   path_low z m = go (dec_lt y (length rows))
     where
       empty : path_of rows x y ≡ [] → z < length rows
-      empty e = absurd (Memᴰ.not_nil (subst (Memᴰ z) e m))
+      empty e = absurd (Memᴰ.not-nil (subst (Memᴰ z) e m))
 
       go : Dec (y < length rows) → z < length rows
       go (yes l) = ⊎_elim (λ t. is_path_low rows x y (path_of rows x y) t.path z m) (λ n. empty n.0) (path_right l)

@@ -13,7 +13,7 @@ use Rattle.graph.specs.Paths.{Chain}
 use Rattle.graph.proofs.Chains.{is_path_low}
 
 member? : (x : ℕ) (l : List ℕ) → Dec (Memᴰ x l)
-member? x [] = no Memᴰ.not_nil
+member? x [] = no Memᴰ.not-nil
 member? x (y ∷ l) = go (ℕ_discrete x y) (member? x l)
   where
     go : Dec (x ≡ y) → Dec (Memᴰ x l) → Dec (Memᴰ x (y ∷ l))
@@ -29,11 +29,11 @@ module _ (rows : List ℕ) (y : ℕ) where
   -- from a later node on
   later : (x u : ℕ) (us : List ℕ) → Chain rows u us y → Distinct (u ∷ us) → Memᴰ x (u ∷ us) → Simple x
   later x u us h d (Memᴰ.head e) = subst Simple (sym e) (us, h, d)
-  later x u [] h d (Memᴰ.tail m) = absurd (Memᴰ.not_nil m)
+  later x u [] h d (Memᴰ.tail m) = absurd (Memᴰ.not-nil m)
   later x u (v ∷ us) h d (Memᴰ.tail m) = later x v us h.1 d.1 m
 
   simple : (x : ℕ) (zs : List ℕ) → Chain rows x zs y → Simple x
-  simple x [] h = ([], h, (Memᴰ.not_nil, tt))
+  simple x [] h = ([], h, (Memᴰ.not-nil, tt))
   simple x (z ∷ zs) h = go (simple z zs h.1)
     where
       go : Simple z → Simple x

@@ -1,4 +1,6 @@
 // No function: graphs as rows of bits stand in specs/, and their theory in proofs/. What is found in one is handed over in these.
+#![tactic(auto)]
+
 use grammar::NODES;
 
 // A path or a circle: its nodes, beside each 1 where the link that leaves it is an edge of the production and 0 where it is a subtree's pair,

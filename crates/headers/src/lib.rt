@@ -1,4 +1,6 @@
 // The header of a table: how many records of each kind there are, and where they begin.
+#![tactic(auto)]
+
 ghost use Rattle.std.specs.Prelude.{◌≡◌};
 ghost use Rattle.grammar.specs.Reading.{header_of, offsets_of};
 

@@ -1,4 +1,6 @@
 // The library for Rust and C: numbers, and slices and arrays of numbers.
+#![tactic(auto)]
+
 ghost use Rattle.std.specs.Prelude.{◌≡◌, ◌*◌, take, replicate};
 ghost use Rattle.grammar.specs.Table.{attributes, edges_in};
 ghost use Rattle.grammar.specs.Refusal.{refusal};

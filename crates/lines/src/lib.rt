@@ -1,5 +1,7 @@
 // The lines that `circ` prints, each put whole into a buffer that the caller lends, or not at all; that of the circle, which may be longer
 // than the others, piece by piece.
+#![tactic(auto)]
+
 ghost use Rattle.std.specs.Prelude.{◌≡◌, ◌++◌, [], ◌+◌, ◌≤◌, length, take, drop};
 ghost use Rattle.texts.specs.Lines.{ascii, newline, decimal, places, tagged, spaced, broken_numbers, counts, answered, first_line, kids_text, entry_line, root_line, link_text};
 ghost use Rattle.lines.specs.Buffer.{line_bytes, Written};

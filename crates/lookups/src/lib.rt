@@ -1,4 +1,6 @@
 // Where an entry is first found in a lent row.
+#![tactic(auto)]
+
 ghost use Rattle.std.specs.Prelude.{◌≡◌, take};
 ghost use Rattle.lookups.specs.Lookup.{of, first_of};
 

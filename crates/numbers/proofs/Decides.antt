@@ -73,7 +73,7 @@ both_decides {a} {b} {A} {B} d e = go a refl
 module _ {A : Type 0} (f : A → Bool) (P : A → Type 0) (d : (x : A) → Decides (f x) (P x)) where
   pub every_decides : (l : List A) → Decides (every f l) ((x : A) → Memᴰ x l → P x)
   unfolding every
-  every_decides [] = record { so = λ e x m. absurd (Memᴰ.not_nil m); passes = λ h. refl }
+  every_decides [] = record { so = λ e x m. absurd (Memᴰ.not-nil m); passes = λ h. refl }
   every_decides (y ∷ l) =
       says
       (λ p x m. ⊎_elim (λ e. subst P (sym e) p.0) (λ m. p.1 x m) (Memᴰ.cases_cons m))

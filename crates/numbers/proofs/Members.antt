@@ -23,7 +23,7 @@ module _ {A : Type 0} where
 
   pub keep_at : (t : A → Bool) (xs : List A) {x : A} → Memᴰ x xs → t x ≡ true → Memᴰ x (keep t xs)
   unfolding keep
-  keep_at t [] m h = absurd (Memᴰ.not_nil m)
+  keep_at t [] m h = absurd (Memᴰ.not-nil m)
   keep_at t (y ∷ xs) {x} m h = go (t y) refl (Memᴰ.cases_cons m) (keep_at t xs)
     where
       go : (b : Bool) → t y ≡ b → (x ≡ y) ⊎ Memᴰ x xs → (Memᴰ x xs → t x ≡ true → Memᴰ x (keep t xs))
@@ -35,7 +35,7 @@ module _ {A : Type 0} where
 
   pub keep_mem : (t : A → Bool) (xs : List A) {x : A} → Memᴰ x (keep t xs) → Memᴰ x xs × (t x ≡ true)
   unfolding keep
-  keep_mem t [] m = absurd (Memᴰ.not_nil m)
+  keep_mem t [] m = absurd (Memᴰ.not-nil m)
   keep_mem t (y ∷ xs) {x} m = go (t y) refl m (keep_mem t xs)
     where
       go : (b : Bool) → t y ≡ b → Memᴰ x (cond b (y ∷ keep t xs) (keep t xs))
@@ -58,7 +58,7 @@ up_from_at i (suc n) k l h = go (ℕ_discrete k i) (up_from_at (suc i) n k)
 
 pub up_from_mem : (i n : ℕ) {k : ℕ} → Memᴰ k (up_from i n) → (i ≤ k) × (k < i + n)
 unfolding up_from
-up_from_mem i zero m = absurd (Memᴰ.not_nil m)
+up_from_mem i zero m = absurd (Memᴰ.not-nil m)
 up_from_mem i (suc n) m =
     at_cons (λ z. (i ≤ z) × (z < i + suc n)) (omega arith, omega arith)
     (λ o. let r = up_from_mem (suc i) n o in (omega (arith, r.0), omega (arith, r.1))) m

@@ -32,6 +32,7 @@ below_first (x ∷ xs) (y ∷ ys) (inr p) =
     omega arith
 
 pub stands_at : {A : Type 0} (d x : A) (l : List A) → Memᴰ x l → (i : ℕ) × (i < length l) × (x ≡ get_or l i d)
+stands_at {A = A} d x [] m = elim m [ ]
 stands_at d x (y ∷ l) (Memᴰ.head e) = (zero, suc-le-suc zero-le, e)
 stands_at d x (y ∷ l) (Memᴰ.tail m) =
     let r = stands_at d x l m in

@@ -1,4 +1,6 @@
 // Bits, little-endian numbers, and laws on lists that several crates cite.
+#![tactic(auto)]
+
 ghost use Rattle.std.specs.Prelude.{◌≡◌, ◌+◌, min, get_or};
 ghost use Rattle.numbers.specs.Number.{le2, le4};
 

@@ -33,7 +33,7 @@ module _ {W : System} (M : Mode W) (laws : Lawful M) (Part : ℕ → Type 0) whe
     pub settled : (x : Closure) → Memᴰ x l → Settled M s x.0 x.1
 
   pub trace_none : (s : M.Store) → Trace s []
-  trace_none s = record { once = tt; ready = λ x m. absurd (Memᴰ.not_nil m); settled = λ x m. absurd (Memᴰ.not_nil m) }
+  trace_none s = record { once = tt; ready = λ x m. absurd (Memᴰ.not-nil m); settled = λ x m. absurd (Memᴰ.not-nil m) }
 
   -- one closure more
   trace_more : (p : ℕ) (c : List ℕ) (s t : M.Store) (l : List Closure) → Ready M Part s p c → Went M laws Part p c s t → Trace s l
@@ -72,7 +72,7 @@ module _ {W : System} (M : Mode W) (laws : Lawful M) (Part : ℕ → Type 0) whe
     more_none p s l = record {
       later = later_none M s;
       stays = λ x m. m;
-      has = λ c m. absurd (Memᴰ.not_nil m);
+      has = λ c m. absurd (Memᴰ.not-nil m);
       only = λ x m. inl m;
     }
 

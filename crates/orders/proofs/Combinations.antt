@@ -65,7 +65,7 @@ counting_seven W es P p c f = rw (← fits_length es P c (W.rights p) f) (take-a
 prefixed_at : (xs : List ℕ) (rest : List (List ℕ)) {x : ℕ} {c : List ℕ} → Memᴰ x xs → Memᴰ c rest
     → Memᴰ (x ∷ c) (prefixed xs rest)
 unfolding prefixed
-prefixed_at [] rest m n = absurd (Memᴰ.not_nil m)
+prefixed_at [] rest m n = absurd (Memᴰ.not-nil m)
 prefixed_at (y ∷ xs) rest {x} {c} m n =
     at_cons (λ z. Memᴰ (z ∷ c) (map (λ d. y ∷ d) rest ++ prefixed xs rest))
     (Memᴰ.append_left (prefixed xs rest) (Memᴰ.map (λ d. y ∷ d) n))
@@ -80,7 +80,7 @@ pub record Front (xs : List ℕ) (rest : List (List ℕ)) (z : List ℕ) : Type 
 
 prefixed_mem : (xs : List ℕ) (rest : List (List ℕ)) {z : List ℕ} → Memᴰ z (prefixed xs rest) → Front xs rest z
 unfolding prefixed
-prefixed_mem [] rest m = absurd (Memᴰ.not_nil m)
+prefixed_mem [] rest m = absurd (Memᴰ.not-nil m)
 prefixed_mem (y ∷ xs) rest {z} m = go (Memᴰ.append_cases (map (λ d. y ∷ d) rest) m) (λ n. prefixed_mem xs rest n)
   where
     go : Memᴰ z (map (λ d. y ∷ d) rest) ⊎ Memᴰ z (prefixed xs rest)
@@ -108,7 +108,7 @@ pub combinations_fit : (es : List Entry) (c bs : List ℕ) → Memᴰ c (combina
     → Combination es (length es) c bs
 unfolding combinations candidates
 combinations_fit es c [] m =
-    at_cons (λ z. Combination es (length es) z []) tt (λ n. absurd (Memᴰ.not_nil n)) m
+    at_cons (λ z. Combination es (length es) z []) tt (λ n. absurd (Memᴰ.not-nil n)) m
 combinations_fit es c (b ∷ bs) m =
     let r = prefixed_mem (candidates es b) (combinations (map (candidates es) bs)) m in
     let k = keep_mem (λ i. eqb (entry es i).symbol b) (up_from 0 (length es)) r.here in
@@ -138,7 +138,7 @@ distinct_prefixed (x ∷ xs) rest (n, d) e =
 
 pub distinct_combinations : (f : ℕ → List ℕ) → ((a : ℕ) → Distinct (f a)) → (bs : List ℕ) → Distinct (combinations (map f bs))
 unfolding combinations
-distinct_combinations f h [] = (λ m. Memᴰ.not_nil m, tt)
+distinct_combinations f h [] = (λ m. Memᴰ.not-nil m, tt)
 distinct_combinations f h (b ∷ bs) = distinct_prefixed (f b) (combinations (map f bs)) (h b) (distinct_combinations f h bs)
 
 pub distinct_candidates : (es : List Entry) (b : ℕ) → Distinct (candidates es b)

@@ -39,7 +39,7 @@ module _ (combos : ℕ → List (List ℕ)) where
   pub every_at : (ps : List ℕ) (p : ℕ) (c : List ℕ) → Memᴰ p ps → Memᴰ c (combos p)
       → Memᴰ {A = Closure} (p, c) (every_closure combos ps)
   unfolding every_closure
-  every_at [] p c m k = absurd (Memᴰ.not_nil m)
+  every_at [] p c m k = absurd (Memᴰ.not-nil m)
   every_at (q ∷ ps) p c m k = go (Memᴰ.cases_cons m) (every_at ps p c)
     where
       go : (p ≡ q) ⊎ Memᴰ p ps
@@ -52,7 +52,7 @@ module _ (combos : ℕ → List (List ℕ)) where
 
   pub every_mem : (ps : List ℕ) (x : Closure) → Memᴰ x (every_closure combos ps) → Memᴰ x.0 ps × Memᴰ x.1 (combos x.0)
   unfolding every_closure
-  every_mem [] x m = absurd (Memᴰ.not_nil m)
+  every_mem [] x m = absurd (Memᴰ.not-nil m)
   every_mem (q ∷ ps) x m = go (Memᴰ.append_cases (map (λ d. (q, d)) (combos q)) m) (every_mem ps x)
     where
       go : Memᴰ x (map (λ d. (q, d)) (combos q)) ⊎ Memᴰ x (every_closure combos ps)

@@ -104,7 +104,7 @@ closures_made W ps L R =
     any_closed (plain W) (plain_lawful W) (In ps) L R (passes_plan_of (plain W) (fresh_of (offers W)) ps (suc R))
     (logged_order (plain W) (plain_lawful W) (In ps) R (plain_combos W) (order W ps R) no_turn [] []
     (good_start (plain W) (plain_lawful W) ps R) (trace_none (plain W) (plain_lawful W) (In ps) [])
-    (swept_start (plain W) [] (λ q d. Memᴰ {A = Closure} (q, d) [])) (λ x m. absurd (Memᴰ.not_nil m)) (careful W ps R))
+    (swept_start (plain W) [] (λ q d. Memᴰ {A = Closure} (q, d) [])) (λ x m. absurd (Memᴰ.not-nil m)) (careful W ps R))
 
 pub all_listed : AllListed
 all_listed W ps L R =

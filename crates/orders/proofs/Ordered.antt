@@ -96,7 +96,7 @@ module _ {W : System} (M : Mode W) (R : ℕ) where
     later = later_none M s;
     within = w;
     room = l;
-    had = λ q m. absurd (Memᴰ.not_nil m);
+    had = λ q m. absurd (Memᴰ.not-nil m);
     stays = λ k q h. h;
   }
 

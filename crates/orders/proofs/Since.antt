@@ -65,7 +65,7 @@ stale_up k m c up h =
     subst (λ z. stale z c ≡ true) (sym y.1) (below_stale y.0 c (λ i l. omega (arith, x.2 i l, y.2)))
 
 pub fits_below : (es : List Entry) (n : ℕ) (c bs : List ℕ) → Combination es n c bs → (i : ℕ) → Memᴰ i c → i < n
-fits_below es n [] bs f i m = absurd (Memᴰ.not_nil m)
+fits_below es n [] bs f i m = absurd (Memᴰ.not-nil m)
 fits_below es n (k ∷ c) [] f i m = absurd f
 fits_below es n (k ∷ c) (b ∷ bs) f i m = at_cons (λ j. j < n) f.0 (λ l. fits_below es n c bs f.2 i l) m
 

@@ -88,7 +88,7 @@ module _ {W : System} (M : Mode W) (laws : Lawful M) (Part : ℕ → Type 0) (R 
       → ((t : M.Store) → Good M laws Part R t → Later M s t → ((c : List ℕ) → Memᴰ c cs → Settled M t p c) → Skips (f t) (g t) t)
       → Skips (tries_plan n p cs f s) (tries_plan n p (keep test cs) g s) s
   unfolding tries_plan keep
-  skips_tries n p test [] f g s good r o h = h s good (later_none M s) (λ c m. absurd (Memᴰ.not_nil m))
+  skips_tries n p test [] f g s good r o h = h s good (later_none M s) (λ c m. absurd (Memᴰ.not-nil m))
   skips_tries n p test (c ∷ cs) f g s good r o h = go (test c) refl (skips_tries n p test cs f g)
     where
       ready : Ready M Part s p c

@@ -46,7 +46,7 @@ module _ {W : System} (M : Mode W) (laws : Lawful M) (Part : ℕ → Type 0) (R 
         → ((t : M.Store) → Good t → Later M s t → ((c : List ℕ) → Memᴰ c cs → Settled M t p c) → Always (f t) t)
         → Always (tries_plan n p cs f s) s
     unfolding tries_plan
-    always_tries n p [] f s g r h = h s g (later_none M s) (λ c m. absurd (Memᴰ.not_nil m))
+    always_tries n p [] f s g r h = h s g (later_none M s) (λ c m. absurd (Memᴰ.not-nil m))
     always_tries n p (c ∷ cs) f s g r h =
         let ready = r c (Memᴰ.head refl) in (
           ready,

@@ -1,1 +1,3 @@
 // No code: what is shown of runs of the passes stands in specs/ and proofs/.
+#![tactic(auto)]
+

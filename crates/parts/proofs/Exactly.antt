@@ -77,7 +77,7 @@ module _ (g : Grammar) (numbered : Numbered g) where
         (left_low p c.0)
 
     kids_treed : (ks : Kids) (ss : List ℕ) → OneEach g (InTable g) ks ss → (s : ℕ) → Memᴰ s ss → In T s
-    kids_treed nil [] o s m = absurd (Memᴰ.not_nil m)
+    kids_treed nil [] o s m = absurd (Memᴰ.not-nil m)
     kids_treed nil (r ∷ ss) o s m = absurd o
     kids_treed (cons t ks) [] o s m = absurd o
     kids_treed (cons t ks) (r ∷ ss) (e, c, o) s m =

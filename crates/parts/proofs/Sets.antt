@@ -180,7 +180,7 @@ all_more A (s ∷ ss) i t h = all_more (add A s) ss (add_set A s i) t (add_more 
 
 pub all_here : (A : Symbols) (ss : List ℕ) → IsSet A → (t : ℕ) → t < 256 → Memᴰ t ss → In (add_all A ss) t
 unfolding add_all
-all_here A [] i t l m = absurd (Memᴰ.not_nil m)
+all_here A [] i t l m = absurd (Memᴰ.not-nil m)
 all_here A (s ∷ ss) i t l m =
     at_cons (λ u. u < 256 → In (add_all (add A s) ss) u)
     (λ l. all_more (add A s) ss (add_set A s i) s (add_here A s i l))

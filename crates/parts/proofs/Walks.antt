@@ -43,7 +43,7 @@ module _
       → (p : Production) → Memᴰ p ps → test A p ≡ true
       → (t : ℕ) → Memᴰ t (targets p) → t < 256 → In (walk F ps A) t
   unfolding walk
-  walk_adds [] A i p m e t k l = absurd (Memᴰ.not_nil m)
+  walk_adds [] A i p m e t k l = absurd (Memᴰ.not-nil m)
   walk_adds (q ∷ ps) A i p m e t k l =
       let j = if_set (test A q) A (targets q) i in
       at_cons (λ r. test A r ≡ true → Memᴰ t (targets r) → In (walk F ps (F A q)) t)

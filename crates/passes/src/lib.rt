@@ -1,4 +1,6 @@
 // The circularity test: the passes over four parallel lent slices of numbers.
+#![tactic(auto)]
+
 ghost use Rattle.std.specs.Prelude.{◌≡◌, true, [], ◌∷◌, ◌≤◌, ◌<◌, length, take};
 ghost use Rattle.numbers.specs.Lists.{up_from};
 ghost use Rattle.grammar.specs.declared.Checked.TheVariants.{Good};

@@ -1,4 +1,6 @@
 // The text of a report at the front of a buffer that the caller lends.
+#![tactic(auto)]
+
 ghost use Rattle.std.specs.Prelude.{◌≡◌, ◌+◌, ◌*◌, ◌≤◌, ◌<◌, leb, length, take};
 ghost use Rattle.numbers.specs.Lists.{both};
 ghost use Rattle.graph.specs.Parts.{most_nodes};

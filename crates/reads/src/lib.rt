@@ -1,4 +1,6 @@
 // The header, the symbols and the productions of a table, each held to its rule.
+#![tactic(auto)]
+
 ghost use Rattle.std.specs.Prelude.{◌≡◌, ◌≤◌, ltb, take, drop};
 ghost use Rattle.numbers.specs.Lists.{every};
 ghost use Rattle.grammar.specs.Grammar.{symbol, production};

@@ -1,4 +1,6 @@
 // The test over a lent row of entries.
+#![tactic(auto)]
+
 ghost use Rattle.std.specs.Prelude.{◌≡◌, ◌+◌, ◌*◌, ◌≤◌, min, length, take, drop};
 ghost use Rattle.numbers.specs.Lists.{written};
 ghost use Rattle.rules.specs.Test as stated;

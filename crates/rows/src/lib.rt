@@ -1,4 +1,6 @@
 // What stands at a place of a lent row of entries.
+#![tactic(auto)]
+
 ghost use Rattle.std.specs.Prelude.{◌≡◌, set};
 ghost use Rattle.rules.specs.Passes.{entry, no_entry};
 

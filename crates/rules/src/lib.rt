@@ -1,4 +1,6 @@
 // The types that the rules and the code share.
+#![tactic(auto)]
+
 use grammar::{Broken, SLOTS};
 use graph::Trail;
 

@@ -1,5 +1,7 @@
 // The shortest and least path from one node to another and the shortest and least circle, with the marks of their links, in a graph as rows of
 // bits. Besides the rows only a few numbers are held; what is found is left in two lent arrays.
+#![tactic(auto)]
+
 ghost use Rattle.std.specs.Prelude.{◌≡◌, ◌∷◌, suc, ◌*◌, ◌/◌, ◌%◌, ◌^◌, ◌<◌, ◌≤◌, length, get_or, take, replicate};
 ghost use Rattle.std.specs.Int.Bits.{bit_and};
 ghost use Rattle.numbers.specs.Number.{bit};

@@ -1,5 +1,7 @@
 // Entries in four parallel lent slices of numbers: how many there is room for, what one of them holds, and the six steps for one
 // combination.
+#![tactic(auto)]
+
 ghost use Rattle.std.specs.Prelude.{◌≡◌, ◌+◌, ◌≤◌, min, length, take, drop};
 ghost use Rattle.std.proofs.lemmas.List.Edits.{sets};
 ghost use Rattle.steps.specs.Slices.{room_for, entry_in, at_entry, at_exit, put_in};

@@ -1,4 +1,6 @@
 // What stands at a number in a table. Who reads a table finds here too what its header says.
+#![tactic(auto)]
+
 ghost use Rattle.std.specs.Prelude.{◌≡◌, ◌+◌, ◌*◌, ◌^◌, ◌≤◌, ◌<◌, take, drop};
 ghost use Rattle.grammar.specs.Grammar.{symbol, production};
 ghost use Rattle.grammar.specs.Table.{production_in, node_in, edge_in, grammar_of};

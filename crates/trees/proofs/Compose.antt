@@ -1,6 +1,6 @@
 -- The composition: paths and circles of a tree are those of its root's compound graph over its subtrees' root graphs. Assumes nothing.
 use mathlib.Core.Logic.{◌⊎◌, inl, inr, ◌↔◌}
-use mathlib.Core.Path.{sym, subst}
+use mathlib.Core.Path.{◌≡◌, refl, sym, subst}
 use Prim.Native.Nat.{ℕ, zero, suc}
 use Rattle.numbers.specs.Paths.{Plus, one, snoc, Circle}
 use Rattle.grammar.specs.Grammar.{Grammar}
@@ -88,11 +88,16 @@ module _
   split (one e) = split_edge e
   split (snoc p e) = more (split p) e
 
-  circle : {x : Instance} → Split x x → Circle C ⊎ ((i : ℕ) × Circle (K i))
-  circle (through {u = u} {v = v} p o q) =
+  circle_at : {x y : Instance} → Split x y → x ≡ y → Circle C ⊎ ((i : ℕ) × Circle (K i))
+  circle_at (through {u = u} {v = v} p o q) e =
       let h = (occurs u v o).1 in
-      inl (v, (compose h h).0 (star_plus (star_star q p) (one (Joined.own o))))
-  circle (within {i = i} {x = x} p) = inr (i, (x, p))
+      inl (v, (compose h h).0 (star_plus (star_star q (rw e at p)) (one (Joined.own o))))
+  circle_at (within {i = i} {x = x} {y = y} p) e =
+      let d : y ≡ x = cc in
+      inr (i, (x, rw d at p))
+
+  circle : {x : Instance} → Split x x → Circle C ⊎ ((i : ℕ) × Circle (K i))
+  circle s = circle_at s refl
 
   lift : Circle C ⊎ ((i : ℕ) × Circle (K i)) → Circle T
   lift (inl c) = (c.0, expand c.1)

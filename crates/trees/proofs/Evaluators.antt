@@ -43,7 +43,7 @@ module _ (g : Grammar) (t : Tree) where
   any_ready :
       (c : Computed Instance) (l : List Instance) → ((y : Instance) → Memᴰ y l → Memᴰ y (instances g t))
       → ((y : Instance) × MayTake g t c y) ⊎ ((y : Instance) → Memᴰ y l → ¬ MayTake g t c y)
-  any_ready c [] h = inr (λ y m. absurd (Memᴰ.not_nil m))
+  any_ready c [] h = inr (λ y m. absurd (Memᴰ.not-nil m))
   any_ready c (y ∷ l) h = by (ready? c y (h y (Memᴰ.head refl))) (any_ready c l (λ z m. h z (Memᴰ.tail m)))
     where
       by :

@@ -71,7 +71,7 @@ module _ (g : Grammar) where
     stands (node p ks) y m = stands_node p ks y (⊎_map (λ r. r) (λ k. kid_stands ks 0 y k) (Memᴰ.append_cases (roots p) m))
 
     kid_stands : (ks : Kids) (j : ℕ) (y : Instance) → Memᴰ y (kid_instances g ks j) → KidHasValue ks j y
-    kid_stands nil j y m = absurd (Memᴰ.not_nil m)
+    kid_stands nil j y m = absurd (Memᴰ.not-nil m)
     kid_stands (cons t ks) j y m =
         kid_stands_node t ks j y (λ x k. stands t x k)
         (⊎_map (λ r. r) (λ k. kid_stands ks (suc j) y k) (Memᴰ.append_cases (map (under j) (instances g t)) m))

@@ -24,7 +24,7 @@ left_none c [] h = refl
 left_none c (x ∷ l) h = rw (h x (Memᴰ.head refl)) (left_none c l (λ y m. h y (Memᴰ.tail m)))
 
 pub none_left : {A : Type 0} (c : Computed A) (l : List A) → left c l ≡ 0 → (x : A) → Memᴰ x l → c x ≡ true
-none_left c [] e x m = absurd (Memᴰ.not_nil m)
+none_left c [] e x m = absurd (Memᴰ.not-nil m)
 none_left {A} c (y ∷ l) e x m = by (c y) refl e (λ f. none_left c l f x)
   where
     by : (b : Bool) → c y ≡ b → one_unless b (left c l) ≡ 0 → (left c l ≡ 0 → Memᴰ x l → c x ≡ true) → c x ≡ true
@@ -59,7 +59,7 @@ module _ {A : Type 0} (eq : Discrete A) (c : Computed A) (y : A) where
 
   -- a taking leaves one value less
   pub left_taken : c y ≡ false → (l : List A) → Distinct l → Memᴰ y l → left c l ≡ suc (left (taken eq c y) l)
-  left_taken h [] d m = absurd (Memᴰ.not_nil m)
+  left_taken h [] d m = absurd (Memᴰ.not-nil m)
   left_taken h (x ∷ l) (n, d) m = by (Memᴰ.cases_cons m) (taken_cases x) (λ k. left_taken h l d k)
     where
       by :

@@ -111,7 +111,7 @@ rank (under i x) = rank x
 cases_a :
     (P : Edge → Type 0) → P (small_edge 0 1 2 1 1) → P (small_edge 0 1 3 1 0) → P (small_edge 1 0 0 0 2) → P (small_edge 2 0 1 0 3)
     → (e : Edge) → Memᴰ e grammar_a.edges → P e
-cases_a P a b c d e = at_cons P a (at_cons P b (at_cons P c (at_cons P d (λ m. absurd (Memᴰ.not_nil m)))))
+cases_a P a b c d e = at_cons P a (at_cons P b (at_cons P c (at_cons P d (λ m. absurd (Memᴰ.not-nil m)))))
 
 own_up : (p : ℕ) → p ≤ 1 → (x y : Instance) → Own grammar_a p x y → rank x < rank y
 own_up p l x y h =
@@ -121,6 +121,7 @@ own_up p l x y h =
 
 leaf_up : (x y : Instance) → TreeEdge grammar_a (node 1 nil) x y → rank x < rank y
 leaf_up x y (Joined.own o) = own_up 1 (omega arith) x y o
+leaf_up x y (Joined.kid k) = elim k [ ]
 
 kid_up : (i : ℕ) (x y : Instance) → KidEdge grammar_a (cons (node 1 nil) nil) i x y → rank x < rank y
 kid_up zero x y e = leaf_up x y e
@@ -153,13 +154,13 @@ noncircular_c (t, w, c) = no_tree_c t w
 -- ---- what the theorems ask of a grammar holds of both
 
 slots_there : (es : List Edge) (p : Production) → Memᴰ p (with_edges es).productions → p.n ≤ length p.slots
-slots_there es p = at_cons P (omega arith) (at_cons P (omega arith) (at_cons P (omega arith) (λ m. absurd (Memᴰ.not_nil m))))
+slots_there es p = at_cons P (omega arith) (at_cons P (omega arith) (at_cons P (omega arith) (λ m. absurd (Memᴰ.not-nil m))))
   where
     P : Production → Type 0
     P q = q.n ≤ length q.slots
 
 pub at_most_eight : (es : List Edge) → AtMost 8 (with_edges es)
-at_most_eight es s = at_cons P (omega arith) (at_cons P (omega arith) (λ m. absurd (Memᴰ.not_nil m)))
+at_most_eight es s = at_cons P (omega arith) (at_cons P (omega arith) (λ m. absurd (Memᴰ.not-nil m)))
   where
     P : Symbol → Type 0
     P q = q.count ≤ 8
@@ -212,7 +213,7 @@ well_formed_b =
       edges =
           λ e. at_cons P (good_0 _ 2 1 (omega arith) (omega arith) refl) (at_cons P (good_0 _ 3 0 (omega arith) (omega arith) refl)
           (at_cons P (good_1 _ 0 2 (omega arith) (omega arith) refl) (at_cons P (good_1 _ 1 3 (omega arith) (omega arith) refl)
-          (at_cons P (good_2 _ 1 3 (omega arith) (omega arith) refl) (λ m. absurd (Memᴰ.not_nil m))))));
+          (at_cons P (good_2 _ 1 3 (omega arith) (omega arith) refl) (λ m. absurd (Memᴰ.not-nil m))))));
     }
   where
     P : Edge → Type 0

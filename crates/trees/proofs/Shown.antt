@@ -25,7 +25,7 @@ fits_length entry n (k ∷ ks) (s ∷ ss) (l, e, w) = ap suc (fits_length entry 
 
 -- the numbers are below n
 pub fits_below : {Graph : Type 0} (entry : ℕ → Entry Graph) (n : ℕ) (ks ss : List ℕ) → KidsBelow entry n ks ss → (j : ℕ) → Memᴰ j ks → j < n
-fits_below entry n [] [] w j m = absurd (Memᴰ.not_nil m)
+fits_below entry n [] [] w j m = absurd (Memᴰ.not-nil m)
 fits_below entry n [] (s ∷ ss) w j m = absurd w
 fits_below entry n (k ∷ ks) [] w j m = absurd w
 fits_below entry n (k ∷ ks) (s ∷ ss) (l, e, w) j m = at_cons (λ i. i < n) l (fits_below entry n ks ss w j) m

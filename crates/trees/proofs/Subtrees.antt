@@ -35,7 +35,7 @@ module _ (g : Grammar) (Part : ℕ → Type 0) where
   pub kid_of :
       (ks : Kids) (ss : List ℕ) → OneEach g Part ks ss
       → (s : ℕ) → Memᴰ s ss → (t : Tree) × (i : ℕ) × Kid ks i t × (root_symbol g t ≡ s)
-  kid_of nil [] o s m = absurd (Memᴰ.not_nil m)
+  kid_of nil [] o s m = absurd (Memᴰ.not-nil m)
   kid_of nil (r ∷ ss) o s m = absurd o
   kid_of (cons t ks) [] o s m = absurd o
   kid_of (cons t ks) (r ∷ ss) (e, c, o) s m =

@@ -38,7 +38,7 @@ module _ (g : Grammar) where
   ith (cons t ks) (suc i) = ith ks i
 
   in_kids : (ks : Kids) (j i : ℕ) (x : Instance) → Memᴰ x (ith ks i) → Memᴰ (under (i + j) x) (kid_instances g ks j)
-  in_kids nil j i x m = absurd (Memᴰ.not_nil m)
+  in_kids nil j i x m = absurd (Memᴰ.not-nil m)
   in_kids (cons t ks) j zero x m =
       let e : 0 + j ≡ j = omega arith in
       Memᴰ.cast (ap (λ (n : ℕ). under n x) e) (Memᴰ.append_left _ (Memᴰ.map (under j) m))
@@ -150,7 +150,7 @@ module _ (p : ℕ) (c : Computed Instance) (y : Instance) where
       by (yes q) (yes r) false s = inl (instance_of e.source, record { which = q; from = refl; to = r }, s)
 
   find_among : (es : List Edge) → Search (λ x. Link es p x y) c
-  find_among [] = inr (λ x h. absurd (Memᴰ.not_nil h.among))
+  find_among [] = inr (λ x h. absurd (Memᴰ.not-nil h.among))
   find_among (e ∷ es) =
       either c
       (λ x h. record { edge = e; among = Memᴰ.head refl; which = h.which; from = h.from; to = h.to })

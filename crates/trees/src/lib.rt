@@ -1,1 +1,3 @@
 // No code: trees, circles and evaluators stand in specs/ and proofs/.
+#![tactic(auto)]
+

@@ -1,1 +1,3 @@
 // No code: what is tried stands in specs/ and proofs/.
+#![tactic(auto)]
+

@@ -1,4 +1,6 @@
 // The combinations of a turn, one after the other. Each right symbol has a place in them.
+#![tactic(auto)]
+
 ghost use Rattle.std.specs.Prelude.{◌≡◌, suc, get_or, set, take};
 ghost use Rattle.turns.specs.Moves.{Found, firsts_to, moved_to};
 ghost use Rattle.turns.specs.Skips.{newest_to, all_below, skipped};

@@ -3,6 +3,8 @@
 //
 // A case of standard input is the length of a table (4 bytes), the table, the number of runs (1 byte), and for each run its limit
 // (4 bytes), its room (2 bytes) and whether entry lines are printed (1 byte).
+#![tactic(auto)]
+
 ghost use Rattle.std.specs.Prelude.{◌≡◌, ◌*◌, ◌≤◌, length};
 
 use grammar::SLOTS;

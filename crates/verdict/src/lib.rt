@@ -1,1 +1,3 @@
 // No code: what is shown of the rules stands in specs/ and proofs/.
+#![tactic(auto)]
+

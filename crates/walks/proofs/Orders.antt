@@ -53,7 +53,7 @@ module _ {A : Type 0} where
       (aux_of l (y ∷ r) m)
 
   aux_in : (l r : List A) {x : A} → Memᴰ x l ⊎ Memᴰ x r → Memᴰ x (reverse_aux l r)
-  aux_in [] r (inl m) = absurd (Memᴰ.not_nil m)
+  aux_in [] r (inl m) = absurd (Memᴰ.not-nil m)
   aux_in [] r (inr m) = m
   aux_in (y ∷ l) r (inl m) = aux_in l (y ∷ r) (⊎_elim (λ e. inr (Memᴰ.head e)) inl (Memᴰ.cases_cons m))
   aux_in (y ∷ l) r (inr m) = aux_in l (y ∷ r) (inr (Memᴰ.tail m))
@@ -63,7 +63,7 @@ module _ {A : Type 0} where
 pub of_turned : (up : Bool) (ps : List Production) (p : Production) → Memᴰ p (turned up ps) → Memᴰ p ps
 unfolding turned
 of_turned true ps p m = m
-of_turned false ps p m = ⊎_elim (λ k. k) (λ k. absurd (Memᴰ.not_nil k)) (aux_of ps [] m)
+of_turned false ps p m = ⊎_elim (λ k. k) (λ k. absurd (Memᴰ.not-nil k)) (aux_of ps [] m)
 
 pub in_turned : (up : Bool) (ps : List Production) (p : Production) → Memᴰ p ps → Memᴰ p (turned up ps)
 unfolding turned

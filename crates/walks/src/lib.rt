@@ -1,4 +1,6 @@
 // Which productions of a table take part: two sets of symbols, found by walks over the productions.
+#![tactic(auto)]
+
 ghost use Rattle.std.specs.Prelude.{◌≡◌, true, cond, ◌+◌, ◌-◌, ◌≤◌, ◌<◌, leb, ltb, length, get_or, take};
 ghost use Rattle.numbers.specs.Number.{le2};
 ghost use Rattle.numbers.specs.Lists.{every};
