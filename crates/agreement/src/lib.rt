@@ -224,7 +224,7 @@ fn alike<'e, 'a>(
 }
 
 // What comes of the test over a row: its report, and whether the row is then as the slices are.
-#[derive(Drop)]
+#[derive(Clone, Copy)]
 struct RowTried {
     report: Report,
     same: bool,

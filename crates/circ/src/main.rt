@@ -31,7 +31,7 @@ const TABLE_BYTES: usize = HEADER_BYTES
 const TEXT_BYTES: usize = LINE_BYTES * (ROOM + OTHER_LINES);
 
 // So many bytes at the front of a buffer, or none because a read failed.
-#[derive(Drop)]
+#[derive(Clone, Copy)]
 enum Input {
     Bytes(usize),
     Unread,

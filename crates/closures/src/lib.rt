@@ -12,7 +12,7 @@ pub use compounds::{compound, own_rows, place};
 use grammar::{ATTRIBUTES, NODES, SLOTS};
 
 // What one closure gives.
-#[derive(Drop)]
+#[derive(Clone, Copy)]
 pub struct Closed {
     pub circle: bool,
     pub graph: u64,

@@ -14,7 +14,7 @@ use rules::{Answer, Report};
 pub const LINE_BYTES: usize = 128;
 
 // A line in the making: its text is the first `len` bytes. Each is made here, whole, before it is put.
-#[derive(Drop)]
+#[derive(Clone, Copy)]
 struct Line {
     bytes: [u8; LINE_BYTES],
     len: usize,

@@ -22,7 +22,7 @@ use rules::{Answer, Report};
 use steps::{Course, Run, Task, Verdict};
 
 // How the passes have ended: of a report all but the circle.
-#[derive(Drop)]
+#[derive(Clone, Copy)]
 pub struct Ending {
     pub answer: Answer,
     pub root: [u16; SLOTS],

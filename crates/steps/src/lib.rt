@@ -11,7 +11,7 @@ use grammar::SLOTS;
 use rules::{Answer, Entry, MOST_ENTRIES};
 
 // Whether the passes go on, or with what answer they have stopped.
-#[derive(Drop)]
+#[derive(Clone, Copy)]
 pub enum Course {
     Going,
     Stopped(Answer),
@@ -19,7 +19,7 @@ pub enum Course {
 
 // Where the passes stand: the closures that are left and how many entries are stored. An enum holds no array, so the root stands beside
 // the course: it is that of a circular answer, and 0 elsewhere.
-#[derive(Drop)]
+#[derive(Clone, Copy)]
 pub struct Run {
     pub course: Course,
     pub root: [u16; SLOTS],
@@ -28,7 +28,7 @@ pub struct Run {
 }
 
 // What the tries of a turn have in common: the number of its production, the left symbol, how many right symbols there are, and the room.
-#[derive(Drop)]
+#[derive(Clone, Copy)]
 pub struct Task {
     pub number: u16,
     pub symbol: u16,
@@ -37,7 +37,7 @@ pub struct Task {
 }
 
 // What is to be done with one combination.
-#[derive(Drop)]
+#[derive(Clone, Copy)]
 pub enum Verdict {
     Steps,
     Circle,
@@ -47,7 +47,7 @@ pub enum Verdict {
 }
 
 // The graph that the closure gives stands beside the verdict: a wider one would be an array, which no enum holds.
-#[derive(Drop)]
+#[derive(Clone, Copy)]
 struct Judged {
     verdict: Verdict,
     graph: u64,

@@ -111,7 +111,7 @@ pub fn next_combination(
 }
 
 // The last place that has a candidate from a number on, and the first of these.
-#[derive(Drop)]
+#[derive(Clone, Copy)]
 pub struct Newest {
     pub some: bool,
     pub place: usize,

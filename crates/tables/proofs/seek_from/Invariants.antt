@@ -1,0 +1,15 @@
+-- `tables::seek_from` meets its contract. The steps that are left, from where the search stands, lead where all of them lead. Assumes nothing.
+use mathlib.Core.Path.{◌≡◌, refl, sym, ap, ◌∙◌}
+use Prim.Native.Nat.{◌≤◌, ◌-◌, ◌^◌}
+use native.Mathlib.Omega.{arith}
+use borrow.Author.Rules.{rules}
+use Rattle.grammar.specs.Search.{further, seek}
+use Rattle.grammar.proofs.Seeking.{further_ahead, further_inside, seek_none, seek_more, shifted, step_range}
+use Rattle.tables.proofs.seek_from.Given as goal
+
+abbrev pub invariant-loop-k : goal.invariant-loop-k
+invariant-loop-k l =
+    (l.k ≤ 16) × (l.from ≤ l.at) × (l.at ≤ l.h.edges) × (seek l.k l.table l.p l.at ≡ seek 16 l.table l.p l.from)
+
+abbrev pub decreases-loop-k : goal.decreases-loop-k
+decreases-loop-k l = l.k
