@@ -1,0 +1,27 @@
+-- `closures::circle_in` meets its contract. The loop's invariant: bit 0 of `seen` says whether a node below i has an edge to itself. Assumes nothing.
+use mathlib.Core.Path.{◌≡◌, refl, ap, ◌∙◌}
+use Prim.Native.Nat.{ℕ, ◌*◌, ◌-◌, ◌%◌, ◌≤◌}
+use native.Mathlib.Omega.{arith}
+use lib.Bits.{and_mask}
+use lib.Dec.{eqb}
+use borrow.Author.Rules.{rules}
+use Rattle.graph.specs.Rows.{circle_to}
+use Rattle.graph.proofs.Turns.{circle_more, circle_clipped}
+use Rattle.closures.proofs.circle_in.Goals as goal
+
+pub loop-i-init : goal.loop-i-init
+unfolding circle_to
+loop-i-init c = (omega arith, refl)
+
+pub loop-i-preserved : goal.loop-i-preserved
+loop-i-preserved c =
+    (omega arith, circle_more c.loop-i.i c.loop-i.seen c.args.rows.now c.loop-i.invariant.1)
+
+pub returns : goal.returns
+returns c =
+    let n = c.nodes-n.result in
+    let args = c.args in
+    let e : c.loop-i.i ≡ n = omega arith in
+    ap (λ (x : ℕ). eqb x 1) (and_mask c.loop-i.seen 1)
+    ∙ (rw e at c.loop-i.invariant.1)
+    ∙ circle_clipped (8 * args.occurrences) n args.rows.now (omega arith)

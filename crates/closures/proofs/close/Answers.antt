@@ -1,0 +1,6 @@
+-- `closures::close` meets its contract. Assumes nothing.
+use borrow.Author.Rules.{rules}
+use Rattle.closures.proofs.close.Goals as goal
+
+pub returns : goal.returns
+returns c = c.close_in.ensures

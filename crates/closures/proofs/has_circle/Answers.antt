@@ -1,0 +1,6 @@
+-- `closures::has_circle` meets its contract. Assumes nothing.
+use borrow.Author.Rules.{rules}
+use Rattle.closures.proofs.has_circle.Goals as goal
+
+pub returns : goal.returns
+returns c = c.circle_in.ensures

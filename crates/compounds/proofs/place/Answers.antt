@@ -1,0 +1,6 @@
+-- `compounds::place` meets its contract. Assumes nothing.
+use borrow.Author.Rules.{rules}
+use Rattle.compounds.proofs.place.Goals as goal
+
+pub returns : goal.returns
+returns c = c.place_in.ensures

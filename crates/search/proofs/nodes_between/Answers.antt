@@ -1,0 +1,38 @@
+-- `search::nodes_between` meets its contract. The loop's invariant: the set has the nodes from which k links lead to y, and what is left to search gives what the whole gives. Assumes nothing.
+use mathlib.Core.Path.{◌≡◌}
+use Prim.Native.Nat.{◌-◌, ◌/◌, ◌^◌, ◌≤◌}
+use native.Mathlib.Omega.{arith}
+use lib.Bits.{and_mask}
+use lib.ListN.{take}
+use borrow.Author.Rules.{rules}
+use Rattle.numbers.proofs.Bits.{power_fits}
+use Rattle.graph.specs.Search.{level}
+use Rattle.graph.proofs.Searching.{level_more, BetweenFrom, between_begun, between_hit, between_skip, between_over}
+use Rattle.search.proofs.nodes_between.Goals as goal
+
+pub loop-k-init : goal.loop-k-init
+unfolding level
+loop-k-init c =
+    let a = c.args in
+    (omega arith, power_fits 64 a.y (omega arith), between_begun a.m a.rows.now a.x a.y (omega arith))
+
+pub returns-then-set-x-eq1 : goal.returns-then-set-x-eq1
+returns-then-set-x-eq1 c =
+    let a = c.args in
+    let k = c.loop-k.k in
+    let p = level_more a.m a.rows.now (omega arith) a.y k c.loop-k.invariant.1 c.sources-set.ensures in
+    let bit_is = and_mask (c.sources-set.result / 2 ^ a.x) 1 in
+    between_hit a.m a.rows.now a.x a.y k (omega arith) p c.loop-k.invariant.2 (omega arith)
+
+pub loop-k-preserved : goal.loop-k-preserved
+loop-k-preserved c =
+    let a = c.args in
+    let k = c.loop-k.k in
+    let p = level_more a.m a.rows.now (omega arith) a.y k c.loop-k.invariant.1 c.sources-set.ensures in
+    let bit_is = and_mask (c.sources-set.result / 2 ^ a.x) 1 in
+    (omega arith, p, between_skip a.m a.rows.now a.x a.y k (omega arith) p c.loop-k.invariant.2 (omega arith))
+
+pub returns : goal.returns
+returns c =
+    let a = c.args in
+    between_over a.m a.rows.now a.x a.y c.loop-k.k (omega arith) c.loop-k.invariant.2

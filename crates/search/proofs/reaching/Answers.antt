@@ -1,0 +1,24 @@
+-- `search::reaching` meets its contract. The loop's invariant: the set has the nodes from which d links lead to y. Assumes nothing.
+use mathlib.Core.Path.{◌≡◌}
+use Prim.Native.Nat.{◌-◌, ◌≤◌}
+use native.Mathlib.Omega.{arith}
+use lib.ListN.{take}
+use borrow.Author.Rules.{rules}
+use Rattle.numbers.proofs.Bits.{power_fits}
+use Rattle.graph.specs.Search.{level}
+use Rattle.graph.proofs.Searching.{level_more}
+use Rattle.search.proofs.reaching.Goals as goal
+
+pub loop-d-init : goal.loop-d-init
+unfolding level
+loop-d-init c = (omega arith, power_fits 64 c.args.y (omega arith))
+
+pub loop-d-preserved : goal.loop-d-preserved
+loop-d-preserved c =
+    let a = c.args in
+    (omega arith, level_more a.m a.rows.now (omega arith) a.y c.loop-d.d c.loop-d.invariant.1 c.sources-set.ensures)
+
+pub returns : goal.returns
+returns c =
+    let e : c.loop-d.d ≡ c.args.k = omega arith in
+    rw e at c.loop-d.invariant.1

@@ -1,0 +1,16 @@
+-- `search::start_among` meets its contract. The loop's invariant: b is the one of the nodes below s. Assumes nothing.
+use mathlib.Core.Path.{◌≡◌, sym, ap}
+use Prim.Native.Nat.{ℕ, ◌-◌, ◌≤◌}
+use native.Mathlib.Omega.{arith}
+use lib.ListN.{take}
+use lib.Seq.{length-take-le}
+use borrow.Author.Rules.{rules}
+use Rattle.graph.specs.Search.{nearest_to}
+use Rattle.graph.proofs.Searching.{nearest_more}
+use Rattle.search.proofs.start_among.Given as goal
+
+abbrev pub invariant-loop-s : goal.invariant-loop-s
+invariant-loop-s l = (l.s ≤ l.m) × (l.b ≡ nearest_to l.s (take l.m l.rows))
+
+abbrev pub decreases-loop-s : goal.decreases-loop-s
+decreases-loop-s l = l.m - l.s
