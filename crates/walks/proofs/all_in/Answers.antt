@@ -1,0 +1,41 @@
+-- `walks::all_in` meets its contract. What is left of the right symbols, from k on, passes the test exactly if all of them do. Assumes nothing.
+use mathlib.Core.Path.{◌≡◌, refl, sym, ap, ◌∙◌}
+use Prim.Native.Nat.{◌≤◌, ◌-◌}
+use native.Mathlib.Omega.{arith}
+use borrow.Author.Tests.{not-true, not-false}
+use borrow.Author.Rules.{rules}
+use lib.ListN.{drop}
+use Rattle.numbers.specs.Lists.{every}
+use Rattle.numbers.proofs.Every.{passes_at, fails_at, passes_all}
+use Rattle.grammar.specs.Grammar.{rights}
+use Rattle.grammar.specs.Table.{production_in}
+use Rattle.parts.specs.Sets.{has}
+use Rattle.walks.proofs.all_in.Goals as goal
+
+pub loop-k-init : goal.loop-k-init
+loop-k-init c = (search rules, refl)
+
+pub returns-then-not-is_in : goal.returns-then-not-is_in
+returns-then-not-is_in c =
+    let a = c.args in
+    let l = rights (production_in a.table.now a.at) in
+    let many = c.count_at-n.ensures in
+    let f = ap (has a.set.now) (sym c.right_at-right.ensures) ∙ sym c.is_in.ensures
+    ∙ c.if-not-is_in.true in
+    sym (sym c.loop-k.invariant.1 ∙ fails_at (has a.set.now) l 0 c.loop-k.k (omega arith) f)
+
+pub loop-k-preserved : goal.loop-k-preserved
+loop-k-preserved c =
+    let a = c.args in
+    let l = rights (production_in a.table.now a.at) in
+    let many = c.count_at-n.ensures in
+    let f = ap (has a.set.now) (sym c.right_at-right.ensures) ∙ sym c.is_in.ensures
+    ∙ c.if-not-is_in.false in
+    (omega arith, passes_at (has a.set.now) l 0 c.loop-k.k (omega arith) f ∙ c.loop-k.invariant.1)
+
+pub returns : goal.returns
+returns c =
+    let a = c.args in
+    let l = rights (production_in a.table.now a.at) in
+    let many = c.count_at-n.ensures in
+    sym (sym c.loop-k.invariant.1 ∙ passes_all (has a.set.now) l 0 c.loop-k.k (omega arith))

@@ -1,0 +1,52 @@
+-- `walks::spread` meets its contract. Assumes nothing.
+use mathlib.Core.Path.{sym, ap, subst, ◌∙◌}
+use mathlib.Core.Bool.{true}
+use borrow.Author.Tests.{not-true, not-false}
+use borrow.Author.Rules.{rules}
+use Rattle.grammar.specs.Grammar.{rights}
+use Rattle.grammar.specs.Table.{production_in}
+use Rattle.parts.specs.Sets.{has}
+use Rattle.walks.specs.Walk.{Added}
+use Rattle.walks.proofs.Steps.{left_is, spread_there, spread_left, spread_no, spread_yes, added_nothing, added_some}
+use Rattle.walks.proofs.spread.Goals as goal
+
+pub returns-then-not-is_in : goal.returns-then-not-is_in
+returns-then-not-is_in c =
+    let a = c.args in
+    let set = a.set.now in
+    let left = left_is a.table.now a.at ∙ sym c.two_in-left.ensures in (
+      spread_left set (production_in a.table.now a.at) a.trees.now
+          (ap (has set) left ∙ sym c.is_in.ensures ∙ c.if-not-is_in.true),
+      added_nothing set,
+    )
+
+pub returns-then-all_in : goal.returns-then-all_in
+returns-then-all_in c =
+    let a = c.args in (
+      spread_there a.set.now (production_in a.table.now a.at) a.trees.now c.requires.0.is_set
+          (sym c.all_in.ensures ∙ c.if-all_in.true),
+      added_nothing a.set.now,
+    )
+
+pub returns-then-not-all_in : goal.returns-then-not-all_in
+returns-then-not-all_in c =
+    let a = c.args in (
+      spread_no a.set.now (production_in a.table.now a.at) a.trees.now
+          (sym c.all_in-2.ensures ∙ c.if-not-all_in.true),
+      added_nothing a.set.now,
+    )
+
+pub returns : goal.returns
+returns c =
+    let added = c.add_all in
+    let a = c.args in
+    let p = production_in a.table.now a.at in
+    let set = a.set.now in
+    let left = left_is a.table.now a.at ∙ sym c.two_in-left.ensures in
+    let all = sym c.all_in-2.ensures ∙ c.if-not-all_in.false in (
+      added.ensures
+          ∙ spread_yes set p a.trees.now (ap (has set) left ∙ sym c.is_in.ensures ∙ c.if-not-is_in.false) all,
+      subst (λ B. Added set B true) (sym added.ensures)
+          (added_some a.trees.now set (rights p) c.requires.1 c.requires.0.is_set all
+          (sym c.all_in.ensures ∙ c.if-all_in.false)),
+    )

@@ -1,0 +1,77 @@
+-- `walks::spread_walk` meets its contract. The loop's invariant: the walk over the productions that are left gives what the whole walk gives.
+-- Assumes nothing.
+use mathlib.Core.Path.{◌≡◌, refl, sym, ap, subst, ◌∙◌}
+use Prim.Native.Nat.{◌≤◌, ◌-◌}
+use native.Mathlib.Omega.{arith}
+use borrow.Author.Rules.{rules}
+use lib.ListN.{drop}
+use Rattle.grammar.specs.Table.{P, at_productions, grammar_of}
+use Rattle.parts.specs.Rule.{walk, spread}
+use Rattle.parts.proofs.Sets.{IsSet}
+use Rattle.walks.specs.Walk.{turned, Added}
+use Rattle.walks.proofs.Steps.{added_nothing, added_more, added_same, spread_is}
+use Rattle.walks.proofs.Orders.{walk_next, walk_done}
+use Rattle.walks.proofs.spread_walk.Goals as goal
+
+-- TODO same-length
+-- same_length : tie.Need-same-length invariant-loop decreases-loop
+-- same_length c = c.before.loop.invariant.3.four ∙ sym c.before.before.before.before.before.before.before.before.before.requires.1.four
+
+pub loop-i-init : goal.loop-i-init
+loop-i-init c =
+    let h = c.header_of.ensures in
+    (
+      search rules,
+      c.wide-n.ensures ∙ ap (λ c. c.productions) h,
+      ap (λ c. c.productions) c.offsets_of-first.ensures,
+      c.requires.1,
+      refl,
+      added_nothing c.args.set.now,
+    )
+
+pub spread-requires : goal.spread-requires
+spread-requires c =
+    let inv = c.loop-i.invariant in
+    (
+      record { there = omega (arith, inv.1, inv.2, c.requires.0, c.number_at.ensures.1); is_set = inv.3 },
+      c.requires.2,
+    )
+
+pub loop-i-preserved-then-spread : goal.loop-i-preserved-then-spread
+loop-i-preserved-then-spread c =
+    let step = c.spread in
+    let a = c.args in
+    let inv = c.loop-i.invariant in (
+      omega arith,
+      inv.1,
+      inv.2,
+      spread_is c.loop-i.set _ a.trees.now inv.3 step.ensures.0,
+      walk_next (spread a.trees.now) a.table.now a.up c.loop-i.i c.loop-i.set _ _ _ c.number_at.result
+          (omega arith) inv.1 inv.2 c.number_at.ensures step.ensures.0
+          ∙ inv.4,
+      added_more a.set.now c.loop-i.set _ c.loop-i.more inv.5
+          (subst (Added c.loop-i.set _) c.if-spread.true step.ensures.1),
+    )
+
+pub loop-i-preserved : goal.loop-i-preserved
+loop-i-preserved c =
+    let step = c.spread in
+    let a = c.args in
+    let inv = c.loop-i.invariant in (
+      omega arith,
+      inv.1,
+      inv.2,
+      spread_is c.loop-i.set _ a.trees.now inv.3 step.ensures.0,
+      walk_next (spread a.trees.now) a.table.now a.up c.loop-i.i c.loop-i.set _ _ _ c.number_at.result
+          (omega arith) inv.1 inv.2 c.number_at.ensures step.ensures.0
+          ∙ inv.4,
+      added_same a.set.now c.loop-i.set _ c.loop-i.more inv.5
+          (subst (Added c.loop-i.set _) c.if-spread.false step.ensures.1),
+    )
+
+pub returns : goal.returns
+returns c =
+    let a = c.args in
+    let inv = c.loop-i.invariant in
+    let e = sym (walk_done (spread a.trees.now) a.table.now a.up c.loop-i.i c.loop-i.set _ inv.1 (omega arith)) ∙ inv.4 in
+    (e, inv.5)
