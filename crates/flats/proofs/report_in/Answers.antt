@@ -7,8 +7,7 @@ use lib.ListN.{length, get_or, take, drop, length-drop, drop_of_length-le}
 use lib.Seq.{drop-cons}
 use borrow.Author.Rules.{rules}
 use Rattle.flats.specs.Flat.{flat}
-use Rattle.flats.proofs.report_in.Statement.{statement}
-use Rattle.flats.proofs.report_in.Tie as tie
+use Rattle.flats.proofs.report_in.Goals as goal
 
 -- a list whose end is written anew
 ended : (xs ys : List ℕ) → take 12 xs ++ (ys ++ drop (length xs - 12) (drop 12 xs)) ≡ take 12 xs ++ ys
@@ -38,63 +37,14 @@ with_kids xs ys = take 5 xs ++ (ys ++ drop 7 (drop 5 xs))
 slots : (s : tie.Start) → length s.args.report.root ≡ 7
 slots s = search rules
 
-first-in-requires : tie.Need-first-in-requires
-first-in-requires c κs = search rules
-
-sub-kids-in : tie.Need-overflow-sub-kids-in
-sub-kids-in c = search rules
-
-part-kids-in-start : tie.Need-slice-bounds-kids-in-start
-part-kids-in-start c = search rules
-
-part-kids-in-end : tie.Need-slice-bounds-kids-in-end
-part-kids-in-end c = search rules
-
-kids-in-requires : tie.Need-kids-in-requires
-kids-in-requires c κs = search rules
-
-sub-trail-in : tie.Need-overflow-sub-trail-in
-sub-trail-in c = search rules
-
-part-trail-in-start : tie.Need-slice-bounds-trail-in-start
-part-trail-in-start c = search rules
-
-part-trail-in-end : tie.Need-slice-bounds-trail-in-end
-part-trail-in-end c = search rules
-
-trail-in-requires : tie.Need-trail-in-requires
-trail-in-requires c κs = search rules
-
-same_length : tie.Need-same-length
-same_length c = search rules
-
-returns : tie.Need-returns
+pub returns : goal.returns
 returns c =
-    let circle = c.before.before.trail-in in
-    let d = c.before.before.before.before.before.before.before.before in
-    let kids = d.kids-in in
-    let e = d.before.before.before.before in
-    let first = e.first-in in
-    let s = e.before.before.before.before.before.before.before in
-    let report = s.args.report in
+    let circle = c.trail_in in
+    let kids = c.kids_in in
+    let first = c.first_in in
+    let report = c.args.report in
     ended (with_kids first.new.1.0 kids.new.1.0) circle.new.1.1.1.0
     ∙ ap₂ (λ (xs ys : List ℕ). take 12 (with_kids xs ys) ++ circle.new.1.1.1.0)
     first.ensures
-    (kids.ensures ∙ seven report.root (slots s))
+    (kids.ensures ∙ seven report.root (slots c))
     ∙ ap (λ (ys : List ℕ). take 12 (flat report) ++ ys) circle.ensures
-
-pub report-in-spec : {M : Type 1} → statement M
-report-in-spec =
-    tie.close
-    (tie.spec
-    first-in-requires
-    sub-kids-in
-    part-kids-in-start
-    part-kids-in-end
-    kids-in-requires
-    sub-trail-in
-    part-trail-in-start
-    part-trail-in-end
-    trail-in-requires
-    same_length
-    returns)

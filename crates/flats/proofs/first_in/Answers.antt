@@ -7,8 +7,7 @@ use native.Mathlib.Omega.{arith}
 use lib.ListN.{length, take, drop, set, length-set, take-append-drop}
 use lib.Seq.{take-suc-set, drop-set-lt}
 use borrow.Author.Rules.{rules}
-use Rattle.flats.proofs.first_in.Statement.{statement}
-use Rattle.flats.proofs.first_in.Tie as tie
+use Rattle.flats.proofs.first_in.Goals as goal
 
 -- numbers written one after the other, from a place on
 abbrev written : List ℕ → ℕ → List ℕ → List ℕ
@@ -30,61 +29,21 @@ written_all out i (v ∷ vs) l =
 cons : {a b : ℕ} {t u : List ℕ} → a ≡ b → t ≡ u → a ∷ t ≡ b ∷ u
 cons p q i = p i ∷ q i
 
-number-of-requires : tie.Need-number-of-requires
-number-of-requires c κs = search rules
+-- TODO same-length
+-- same_length : tie.Need-same-length
+-- same_length c = simp length-set
 
-slice-write-out : tie.Need-slice-write-out
-slice-write-out c = search rules
+pub bounds-out-4 : goal.bounds-out-4
+bounds-out-4 c = simp length-set (omega arith)
 
-value-of-requires : tie.Need-value-of-requires
-value-of-requires c κs = search rules
-
-slice-write-out-2 : tie.Need-slice-write-out-2
-slice-write-out-2 c = search rules
-
-slice-write-out-3 : tie.Need-slice-write-out-3
-slice-write-out-3 c = search rules
-
-wide-requires : tie.Need-wide-requires
-wide-requires c κs = search rules
-
-slice-write-out-4 : tie.Need-slice-write-out-4
-slice-write-out-4 c = search rules
-
-wide-requires-2 : tie.Need-wide-requires-2
-wide-requires-2 c κs = search rules
-
-slice-write-out-5 : tie.Need-slice-write-out-5
-slice-write-out-5 c = simp length-set (omega arith)
-
-same_length : tie.Need-same-length
-same_length c = simp length-set
-
-returns : tie.Need-returns
+pub returns : goal.returns
 returns c =
-    let start = c.before.before.before.before.before in
     let vs =
-    c.before.before.before.number_of_lem.result
-    ∷ c.before.before.value_of_lem.result
-    ∷ start.args.report.closures
-    ∷ c.before.wide.result
-    ∷ c.wide2.result
+    c.number_of.result
+    ∷ c.value_of.result
+    ∷ c.args.report.closures
+    ∷ c.wide.result
+    ∷ c.wide-2.result
     ∷ [] in
-    written_all start.args.out.now 0 vs (omega arith)
+    written_all c.args.out.now 0 vs (omega arith)
     ∙ cons (search rules) (cons (search rules) (cons refl (cons (search rules) (cons (search rules) refl))))
-
-pub first-in-spec : {M : Type 1} → statement M
-first-in-spec =
-    tie.close
-    (tie.spec
-    number-of-requires
-    slice-write-out
-    value-of-requires
-    slice-write-out-2
-    slice-write-out-3
-    wide-requires
-    slice-write-out-4
-    wide-requires-2
-    slice-write-out-5
-    same_length
-    returns)

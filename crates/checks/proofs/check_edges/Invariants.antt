@@ -1,0 +1,27 @@
+-- `checks::check_edges` meets its contract. What the edges from i on say, after the edge before them, is what all of them say. Assumes nothing.
+use mathlib.Core.Path.{◌≡◌, sym, ap, subst, ◌∙◌}
+use mathlib.Core.List.{[], ◌∷◌}
+use Prim.Native.Nat.{◌+◌, ◌≤◌, ◌<◌, ◌-◌}
+use native.Mathlib.Omega.{arith}
+use borrow.Author.Rules.{rules}
+use types.Run.{OneOf, miss}
+use denote.Enum.Declared.{tag_of}
+use Rattle.grammar.specs.declared.Read.{Read}
+use Rattle.grammar.specs.Table.{E, grammar_of}
+use Rattle.grammar.specs.Rules.{edge}
+use Rattle.grammar.specs.Refusal.{edge_rule}
+use Rattle.grammar.specs.Steps.{handed_up, edges_check}
+use Rattle.grammar.proofs.First.{left, first_begins, first_ends}
+use Rattle.grammar.proofs.Handing.{edge_agrees, was_read, loop_stops, loop_goes, reads_edge}
+use Rattle.grammar.specs.contracts.Read.{the_type}
+use Rattle.checks.proofs.check_edges.Given as goal
+
+abbrev pub invariant-loop-i : goal.invariant-loop-i
+invariant-loop-i l =
+    (l.i ≤ l.count)
+    × (l.count ≡ E l.table)
+    × (l.i < E l.table → 0 < l.i → l.before ≡ edge (grammar_of l.table) (l.i - 1))
+    × (left (edge_rule (grammar_of l.table)) (E l.table) l.i ≡ edges_check l.table)
+
+abbrev pub decreases-loop-i : goal.decreases-loop-i
+decreases-loop-i l = l.count - l.i

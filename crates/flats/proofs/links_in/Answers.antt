@@ -1,0 +1,49 @@
+-- `flats::links_in` meets its contract. The invariant: the first i nodes and the first i marks stand in their places. Assumes nothing.
+use mathlib.Core.Path.{◌≡◌, sym, ap, ap₂, ◌∙◌}
+use mathlib.Core.List.{List, [], ◌∷◌, ◌++◌}
+use Prim.Native.Nat.{ℕ, suc, ◌+◌, ◌-◌, ◌≤◌, ◌<◌}
+use native.Mathlib.Numerals.{add-one}
+use native.Mathlib.Omega.{arith}
+use lib.ListN.{length, get_or, take, drop, set, length-set, length-drop}
+use lib.Seq.{take-suc, take-suc-set, take-set-le, drop-set-lt, drop-set-add}
+use borrow.Author.Rules.{rules}
+use Rattle.flats.specs.Flat.{Begun}
+use Rattle.flats.proofs.links_in.Goals as goal
+
+-- two lists that begin alike, and one place more
+alike_more : (xs ys : List ℕ) (i v : ℕ) → take i xs ≡ take i ys → v ≡ get_or ys i 0 → i < length xs → i < length ys
+    → take (suc i) (set xs i v) ≡ take (suc i) ys
+alike_more xs ys i v e f l m =
+    take-suc-set xs i v l ∙ ap₂ (λ (zs : List ℕ) (u : ℕ). zs ++ u ∷ []) e f ∙ sym (take-suc ys i 0 m)
+
+begun_more : {nodes marks out : List ℕ} {x i a b : ℕ} → Begun nodes marks x i out → i < 64 → length nodes ≡ 64 → length marks ≡ 64
+    → a ≡ get_or nodes i 0 → b ≡ get_or marks i 0 → Begun nodes marks x (i + 1) (set (set out (1 + i) a) (65 + i) b)
+begun_more {nodes} {marks} {out} {x} {i} {a} {b} s l n m f g =
+    let long = length-set out (suc i) a ∙ s.long in
+    let rest = length-drop 65 out in
+    let next : 1 + i ≡ suc i = omega arith in
+    rw (add-one, next)
+    record {
+      long = length-set (set out (suc i) a) (65 + i) b ∙ long;
+      nodes =
+          take-set-le (suc (suc i)) (set out (suc i) a) (65 + i) b (omega arith)
+          ∙ alike_more out (x ∷ nodes) (suc i) a s.nodes f (omega arith) (omega arith);
+      marks =
+          ap (take (suc i)) (drop-set-add 65 (set out (suc i) a) i b
+          ∙ ap (λ (l : List ℕ). set l i b) (drop-set-lt 65 out (suc i) a (omega arith)))
+          ∙ alike_more (drop 65 out) marks i b s.marks g (omega arith) (omega arith);
+    }
+
+pub bounds-out-i-in-loop-i : goal.bounds-out-i-in-loop-i
+bounds-out-i-in-loop-i c =
+    let long = length-set c.loop-i.out (1 + c.loop-i.i) c.number.result in
+    omega (arith, long, c.loop-i.invariant.1.long)
+
+pub loop-i-preserved : goal.loop-i-preserved
+loop-i-preserved c =
+    (omega arith, begun_more c.loop-i.invariant.1 (omega arith) (search rules) (search rules) c.number.ensures c.number-in-loop-i.ensures)
+
+pub returns : goal.returns
+returns c =
+    let all : c.loop-i.i ≡ c.args.to = omega arith in
+    rw all at c.loop-i.invariant.1

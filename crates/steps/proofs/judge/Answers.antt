@@ -1,0 +1,76 @@
+-- `steps::judge` meets its contract: each answer by the tests that led to it. Assumes nothing.
+use mathlib.Core.Path.{refl, sym, ap, ◌∙◌}
+use mathlib.Core.Bool.{true, false, false≢true}
+use borrow.Author.Rules.{rules}
+use borrow.Author.Tests.{eq-eqb, ne_eqb}
+use native.Mathlib.Omega.{arith}
+use Rattle.steps.specs.Step.{stores, verdict}
+use Rattle.steps.proofs.Verdicts.{judged_by}
+use Rattle.steps.proofs.judge.Goals as goal
+
+pub returns-then-left-eq0 : goal.returns-then-left-eq0
+unfolding verdict
+returns-then-left-eq0 c =
+    let a = c.args in
+    record {
+      verdict_is =
+          judged_by a.task a.edges.now a.symbols.now a.graphs.now a.left a.stored a.picked.now true _ _ _ _ _
+          (eq-eqb _ _ c.if-left-eq0.true) refl refl refl refl refl;
+      graph_is = λ h. absurd (false≢true (ap stores h));
+    }
+
+pub returns-then-made : goal.returns-then-made
+unfolding verdict
+returns-then-made c =
+    let a = c.args in
+    let made = c.closure-made in
+    record {
+      verdict_is =
+          judged_by a.task a.edges.now a.symbols.now a.graphs.now a.left a.stored a.picked.now false true _ _ _ _
+          (ne_eqb _ _ c.if-left-eq0.false) (sym c.if-made.true ∙ made.ensures.0) refl refl refl refl;
+      graph_is = λ h. absurd (false≢true (ap stores h));
+    }
+
+pub seen-requires : goal.seen-requires
+seen-requires c = (omega (arith, c.compared-known.ensures), omega (arith, c.compared-known.ensures))
+
+pub returns-then-seen : goal.returns-then-seen
+unfolding verdict
+returns-then-seen c =
+    let a = c.args in
+    let made = c.closure-made in
+    record {
+      verdict_is =
+          judged_by a.task a.edges.now a.symbols.now a.graphs.now a.left a.stored a.picked.now false false true _ made.result.graph _
+          (ne_eqb _ _ c.if-left-eq0.false) (sym c.if-made.false ∙ made.ensures.0) made.ensures.1
+          c.compared-known.ensures (sym c.seen.ensures ∙ c.if-seen.true) refl;
+      graph_is = λ h. absurd (false≢true (ap stores h));
+    }
+
+pub returns-then-stored-task : goal.returns-then-stored-task
+unfolding verdict
+returns-then-stored-task c =
+    let a = c.args in
+    let made = c.closure-made in
+    record {
+      verdict_is =
+          judged_by a.task a.edges.now a.symbols.now a.graphs.now a.left a.stored a.picked.now false false false true made.result.graph _
+          (ne_eqb _ _ c.if-left-eq0.false)
+          (sym c.if-made.false ∙ made.ensures.0) made.ensures.1
+          c.compared-known.ensures (sym c.seen.ensures ∙ c.if-seen.false) (eq-eqb _ _ c.if-stored-task.true);
+      graph_is = λ h. absurd (false≢true (ap stores h));
+    }
+
+pub returns : goal.returns
+unfolding verdict
+returns c =
+    let a = c.args in
+    let made = c.closure-made in
+    record {
+      verdict_is =
+          judged_by a.task a.edges.now a.symbols.now a.graphs.now a.left a.stored a.picked.now false false false false made.result.graph _
+          (ne_eqb _ _ c.if-left-eq0.false)
+          (sym c.if-made.false ∙ made.ensures.0) made.ensures.1
+          c.compared-known.ensures (sym c.seen.ensures ∙ c.if-seen.false) (ne_eqb _ _ c.if-stored-task.false);
+      graph_is = λ h. made.ensures.1;
+    }

@@ -1,0 +1,7 @@
+-- `steps::room_of` meets its contract. Assumes nothing.
+use borrow.Author.Rules.{rules}
+use Rattle.steps.proofs.room_of.Goals as goal
+
+pub returns : goal.returns
+returns c =
+    cc (c.smaller-4.ensures, c.smaller-3.ensures, c.smaller-2.ensures, c.smaller.ensures)

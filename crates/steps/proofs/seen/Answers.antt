@@ -1,0 +1,51 @@
+-- `steps::seen` meets its contract. The invariant: the entries from k on are not the symbol with the graph. Assumes nothing.
+use mathlib.Core.Path.{◌≡◌, refl, sym, ◌∙◌}
+use Prim.Native.Nat.{ℕ, ◌-◌, ◌≤◌}
+use borrow.Author.Rules.{rules}
+use native.Mathlib.Omega.{arith}
+use lib.Dec.{eqb}
+use lib.ListN.{get_or}
+use Rattle.numbers.specs.Lists.{both}
+use Rattle.numbers.proofs.Decides.{Decides, not_so, eq_decides, both_decides}
+use Rattle.numbers.proofs.Downward.{some_passes, some_fails, some_done}
+use Rattle.steps.specs.Step.{seen_in}
+use Rattle.steps.proofs.seen.Goals as goal
+
+-- the entry that is looked at
+module _ (c : tie.At-loop invariant-loop decreases-loop) where
+  abbrev symbol : ℕ
+  symbol = get_or c.before.args.symbols.now (c.loop.k - 1) 0
+
+  abbrev graph : ℕ
+  graph = get_or c.before.args.graphs.now (c.loop.k - 1) 0
+
+  is_it : Decides (both (eqb symbol c.before.args.symbol) (eqb graph c.before.args.graph))
+      ((symbol ≡ c.before.args.symbol) × (graph ≡ c.before.args.graph))
+  is_it = both_decides (eq_decides symbol c.before.args.symbol) (eq_decides graph c.before.args.graph)
+
+pub loop-k-init : goal.loop-k-init
+loop-k-init c = (search rules, refl)
+
+pub returns-then-graphs-k : goal.returns-then-graphs-k
+returns-then-graphs-k c =
+    sym (some_passes _ c.loop-k.k c.loop-k-test.true ((is_it c).passes (c.if-symbols-k.true, c.if-graphs-k.true)))
+    ∙ c.loop-k.invariant.1
+
+pub loop-k-preserved-else-graphs-k : goal.loop-k-preserved-else-graphs-k
+loop-k-preserved-else-graphs-k c =
+    (
+      search rules,
+      some_fails _ c.loop-k.k c.loop-k-test.true (not_so (is_it c) (λ p. c.if-graphs-k.false p.1))
+          ∙ c.loop-k.invariant.1,
+    )
+
+pub loop-k-preserved : goal.loop-k-preserved
+loop-k-preserved c =
+    (
+      search rules,
+      some_fails _ c.loop-k.k c.loop-k-test.true (not_so (is_it c) (λ p. c.if-symbols-k.false p.0)) ∙ c.loop-k.invariant.1,
+    )
+
+pub returns : goal.returns
+returns c =
+    sym (some_done _ c.loop-k.k (omega arith)) ∙ c.loop-k.invariant.1
