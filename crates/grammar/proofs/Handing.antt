@@ -6,7 +6,6 @@ use Prim.Native.Nat.{ℕ, zero, suc, ◌+◌, ◌-◌, ◌<◌}
 use native.Mathlib.Omega.{arith}
 use lib.Dec.{ltb}
 use lib.ListN.{length}
-use types.Run.{OneOf}
 use denote.Enum.Declared.{tag_of}
 use Rattle.numbers.specs.Lists.{below}
 use Rattle.grammar.specs.declared.Broken.TheVariants.{Record}
@@ -96,11 +95,10 @@ edge_agrees g i before e =
     (agrees_or _ 12 (omega arith) (agrees_or _ 13 (omega arith) (agrees_or _ 7 (omega arith) whole))))
 
 module _ (x : Read) where
-  -- with a tag that the record itself does not have
-  pub handed : {r : Read} {n : ℕ} → Agrees x r n → (tags : List ℕ) → (OneOf tags (tag_of the_type x) → ⊥) → OneOf tags (tag_of the_type r)
-      → (i : ℕ) → (handed_up i r ≡ Refused (Record n i)) × (0 < n)
-  handed whole tags miss t i = absurd (miss t)
-  handed (refused k h) tags miss t i = (refl, h)
+  -- what is not the record itself
+  pub handed : {r : Read} {n : ℕ} → Agrees x r n → (r ≡ x → ⊥) → (i : ℕ) → (handed_up i r ≡ Refused (Record n i)) × (0 < n)
+  handed whole other i = absurd (other refl)
+  handed (refused k h) other i = (refl, h)
 
   pub was_read : {r : Read} {n : ℕ} → Agrees x r n → (y : Read) → (tag_of the_type y ≡ 3 → ⊥) → r ≡ y → (n ≡ 0) × (x ≡ y)
   was_read whole y h e = (refl, e)
@@ -108,9 +106,8 @@ module _ (x : Read) where
 
 -- ---- a loop over n records, at the record i
 module _ (rule : ℕ → ℕ) (n i : ℕ) (l : i < n) {x r : Read} (a : Agrees x r (rule i)) where
-  pub loop_stops : (tags : List ℕ) → (OneOf tags (tag_of the_type x) → ⊥) → OneOf tags (tag_of the_type r)
-      → handed_up i r ≡ first_bad rule i (n - i)
-  loop_stops tags miss t = let h = handed x a tags miss t i in h.0 ∙ first_stops rule n i l (rule i) refl h.1
+  pub loop_stops : (r ≡ x → ⊥) → handed_up i r ≡ first_bad rule i (n - i)
+  loop_stops other = let h = handed x a other i in h.0 ∙ first_stops rule n i l (rule i) refl h.1
 
   pub loop_goes : (y : Read) → (tag_of the_type y ≡ 3 → ⊥) → r ≡ y → first_bad rule (i + 1) (n - (i + 1)) ≡ first_bad rule i (n - i)
   loop_goes y h e = first_goes rule n i l (was_read x a y h e).0

@@ -23,18 +23,18 @@ pub returns-in_default : goal.returns-in_default
 returns-in_default c =
     let all = refusal_records c.args.table.now c.if-table-lt-HEADER_BYTES.false (sym c.counts_ok.ensures ∙ c.if-not-counts_ok.false) (sym c.offsets_ok.ensures ∙ c.if-not-offsets_ok.false) in
     let q = c.check_symbols-symbols.ensures in
-    q ∙ and_bad _ _ (sym q ∙ c.enum_told-in_default-1.given.1) ∙ sym all
+    q ∙ and_bad _ _ (sym q ∙ c.in_default.is) ∙ sym all
 
 pub returns-in_default-productions : goal.returns-in_default-productions
 returns-in_default-productions c =
     let all = refusal_records c.args.table.now c.if-table-lt-HEADER_BYTES.false (sym c.counts_ok.ensures ∙ c.if-not-counts_ok.false) (sym c.offsets_ok.ensures ∙ c.if-not-offsets_ok.false) in
-    let symbols = sym c.check_symbols-symbols.ensures ∙ c.enum_told-1.given.1 in
+    let symbols = sym c.check_symbols-symbols.ensures ∙ c.in-Good.is in
     let q = c.check_productions-productions.ensures in
-    q ∙ and_bad _ _ (sym q ∙ c.enum_told-in_default-productions-1.given.1) ∙ sym (all ∙ and_good _ symbols)
+    q ∙ and_bad _ _ (sym q ∙ c.in_default-productions.is) ∙ sym (all ∙ and_good _ symbols)
 
 pub returns : goal.returns
 returns c =
     let all = refusal_records c.args.table.now c.if-table-lt-HEADER_BYTES.false (sym c.counts_ok.ensures ∙ c.if-not-counts_ok.false) (sym c.offsets_ok.ensures ∙ c.if-not-offsets_ok.false) in
-    let symbols = sym c.check_symbols-symbols.ensures ∙ c.enum_told-1.given.1 in
-    let productions = sym c.check_productions-productions.ensures ∙ c.enum_told-in-Good-productions-1.given.1 in
+    let symbols = sym c.check_symbols-symbols.ensures ∙ c.in-Good.is in
+    let productions = sym c.check_productions-productions.ensures ∙ c.in-Good-productions.is in
     c.check_edges.ensures ∙ sym (all ∙ and_good _ symbols ∙ and_good _ productions)

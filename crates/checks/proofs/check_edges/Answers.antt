@@ -4,8 +4,6 @@ use mathlib.Core.List.{[], ◌∷◌}
 use Prim.Native.Nat.{◌+◌, ◌≤◌, ◌<◌, ◌-◌}
 use native.Mathlib.Omega.{arith}
 use borrow.Author.Rules.{rules}
-use types.Run.{OneOf, miss}
-use denote.Enum.Declared.{tag_of}
 use Rattle.grammar.specs.declared.Read.{Read}
 use Rattle.grammar.specs.Table.{E, grammar_of}
 use Rattle.grammar.specs.Rules.{edge}
@@ -28,33 +26,31 @@ loop-i-init c =
 pub returns-in_default : goal.returns-in_default
 returns-in_default c =
     let bs = c.args.table.now in
-    let atx = c.loop-i in
-    let l : atx.i < E bs = omega arith in
-    let q = c.read_edge-read.ensures ∙ reads_edge bs atx.before atx.i l (atx.invariant.2 l) in
-    let t = subst (λ r. OneOf (0 ∷ 1 ∷ 3 ∷ []) (tag_of the_type r)) q c.in_default.keys2 in
+    let at_i = c.loop-i in
+    let l : at_i.i < E bs = omega arith in
+    let q = c.read_edge-read.ensures ∙ reads_edge bs at_i.before at_i.i l (at_i.invariant.2 l) in
     c.handed_up.ensures
-    ∙ ap (handed_up atx.i) q
-    ∙ loop_stops (edge_rule (grammar_of bs)) (E bs) atx.i l (edge_agrees (grammar_of bs) atx.i _ _) (0 ∷ 1 ∷ 3 ∷ [])
-    (miss (0 ∷ 1 ∷ 3 ∷ []) 2 tt) t
-    ∙ atx.invariant.3
+    ∙ ap (handed_up at_i.i) q
+    ∙ loop_stops (edge_rule (grammar_of bs)) (E bs) at_i.i l (edge_agrees (grammar_of bs) at_i.i _ _) (λ e. c.in_default.not-Edge _ (q ∙ e))
+    ∙ at_i.invariant.3
 
 pub loop-i-preserved : goal.loop-i-preserved
 loop-i-preserved c =
     let bs = c.args.table.now in
-    let atx = c.loop-i in
-    let l : atx.i < E bs = omega arith in
-    let q = sym (c.read_edge-read.ensures ∙ reads_edge bs atx.before atx.i l (atx.invariant.2 l)) ∙ c.read-1.given.1 in
-    let a = edge_agrees (grammar_of bs) atx.i (edge (grammar_of bs) (atx.i - 1)) (edge (grammar_of bs) atx.i) in
-    let same = (was_read (Read.Edge (edge (grammar_of bs) atx.i)) a _ (λ e. omega arith) q).1 in
-    let back : atx.i + 1 - 1 ≡ atx.i = omega arith in (
+    let at_i = c.loop-i in
+    let l : at_i.i < E bs = omega arith in
+    let q = sym (c.read_edge-read.ensures ∙ reads_edge bs at_i.before at_i.i l (at_i.invariant.2 l)) ∙ c.in-Edge.is in
+    let a = edge_agrees (grammar_of bs) at_i.i (edge (grammar_of bs) (at_i.i - 1)) (edge (grammar_of bs) at_i.i) in
+    let same = (was_read (Read.Edge (edge (grammar_of bs) at_i.i)) a _ (λ e. omega arith) q).1 in
+    let back : at_i.i + 1 - 1 ≡ at_i.i = omega arith in (
       omega arith,
-      atx.invariant.1,
+      at_i.invariant.1,
       λ u z. rw back (cc),
-      loop_goes (edge_rule (grammar_of bs)) (E bs) atx.i l a _ (λ e. omega arith) q ∙ atx.invariant.3,
+      loop_goes (edge_rule (grammar_of bs)) (E bs) at_i.i l a _ (λ e. omega arith) q ∙ at_i.invariant.3,
     )
 
 pub returns : goal.returns
 returns c =
     let bs = c.args.table.now in
-    let atx = c.loop-i in
-    first_ends (edge_rule (grammar_of bs)) (E bs) atx.i (omega arith) ∙ atx.invariant.3
+    let at_i = c.loop-i in
+    first_ends (edge_rule (grammar_of bs)) (E bs) at_i.i (omega arith) ∙ at_i.invariant.3

@@ -4,8 +4,6 @@ use mathlib.Core.List.{[], ◌∷◌}
 use Prim.Native.Nat.{◌≤◌, ◌-◌}
 use native.Mathlib.Omega.{arith}
 use borrow.Author.Rules.{rules}
-use types.Run.{OneOf, miss}
-use denote.Enum.Declared.{tag_of}
 use Rattle.grammar.specs.Grammar.{production}
 use Rattle.grammar.specs.Table.{N, P, grammar_of}
 use Rattle.grammar.specs.Refusal.{production_ok, production_rule}
@@ -23,26 +21,25 @@ loop-i-init c =
 pub returns-in_default : goal.returns-in_default
 returns-in_default c =
     let bs = c.args.table.now in
-    let atx = c.loop-i in
+    let at_i = c.loop-i in
     let q = c.read_production-read.ensures in
-    let t = subst (λ r. OneOf (0 ∷ 2 ∷ 3 ∷ []) (tag_of the_type r)) q c.in_default.keys2 in
     c.handed_up.ensures
-    ∙ ap (handed_up atx.i) q
-    ∙ loop_stops (production_rule bs) (P bs) atx.i (omega arith) (agrees_or (production_ok (N bs) (production (grammar_of bs) atx.i)) 5 (omega arith) whole) (0 ∷ 2 ∷ 3 ∷ []) (miss (0 ∷ 2 ∷ 3 ∷ []) 1 tt) t
-    ∙ atx.invariant.2
+    ∙ ap (handed_up at_i.i) q
+    ∙ loop_stops (production_rule bs) (P bs) at_i.i (omega arith) (agrees_or (production_ok (N bs) (production (grammar_of bs) at_i.i)) 5 (omega arith) whole) (λ e. c.in_default.not-Production _ (q ∙ e))
+    ∙ at_i.invariant.2
 
 pub loop-i-preserved : goal.loop-i-preserved
 loop-i-preserved c =
     let bs = c.args.table.now in
-    let atx = c.loop-i in
-    let q = sym c.read_production-read.ensures ∙ c.enum_told-1.given.1 in (
+    let at_i = c.loop-i in
+    let q = sym c.read_production-read.ensures ∙ c.in-Production.is in (
       omega arith,
-      atx.invariant.1,
-      loop_goes (production_rule bs) (P bs) atx.i (omega arith) (agrees_or (production_ok (N bs) (production (grammar_of bs) atx.i)) 5 (omega arith) whole) _ (λ e. omega arith) q ∙ atx.invariant.2,
+      at_i.invariant.1,
+      loop_goes (production_rule bs) (P bs) at_i.i (omega arith) (agrees_or (production_ok (N bs) (production (grammar_of bs) at_i.i)) 5 (omega arith) whole) _ (λ e. omega arith) q ∙ at_i.invariant.2,
     )
 
 pub returns : goal.returns
 returns c =
     let bs = c.args.table.now in
-    let atx = c.loop-i in
-    first_ends (production_rule bs) (P bs) atx.i (omega arith) ∙ atx.invariant.2
+    let at_i = c.loop-i in
+    first_ends (production_rule bs) (P bs) at_i.i (omega arith) ∙ at_i.invariant.2

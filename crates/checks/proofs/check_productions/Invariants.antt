@@ -4,8 +4,6 @@ use mathlib.Core.List.{[], ◌∷◌}
 use Prim.Native.Nat.{◌≤◌, ◌-◌}
 use native.Mathlib.Omega.{arith}
 use borrow.Author.Rules.{rules}
-use types.Run.{OneOf, miss}
-use denote.Enum.Declared.{tag_of}
 use Rattle.grammar.specs.Grammar.{production}
 use Rattle.grammar.specs.Table.{N, P, grammar_of}
 use Rattle.grammar.specs.Refusal.{production_ok, production_rule}

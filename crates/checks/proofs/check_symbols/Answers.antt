@@ -4,8 +4,6 @@ use mathlib.Core.List.{[], ◌∷◌}
 use Prim.Native.Nat.{◌≤◌, ◌-◌}
 use native.Mathlib.Omega.{arith}
 use borrow.Author.Rules.{rules}
-use types.Run.{OneOf, miss}
-use denote.Enum.Declared.{tag_of}
 use Rattle.grammar.specs.Grammar.{symbol}
 use Rattle.grammar.specs.Table.{N, width_of, grammar_of}
 use Rattle.grammar.specs.Refusal.{symbol_ok, symbol_rule}
@@ -23,26 +21,25 @@ loop-i-init c =
 pub returns-in_default : goal.returns-in_default
 returns-in_default c =
     let bs = c.args.table.now in
-    let atx = c.loop-i in
+    let at_i = c.loop-i in
     let q = c.read_symbol-read.ensures in
-    let t = subst (λ r. OneOf (1 ∷ 2 ∷ 3 ∷ []) (tag_of the_type r)) q c.in_default.keys2 in
     c.handed_up.ensures
-    ∙ ap (handed_up atx.i) q
-    ∙ loop_stops (symbol_rule bs) (N bs) atx.i (omega arith) (agrees_or (symbol_ok (width_of bs) (symbol (grammar_of bs) atx.i)) 4 (omega arith) whole) (1 ∷ 2 ∷ 3 ∷ []) (miss (1 ∷ 2 ∷ 3 ∷ []) 0 tt) t
-    ∙ atx.invariant.2
+    ∙ ap (handed_up at_i.i) q
+    ∙ loop_stops (symbol_rule bs) (N bs) at_i.i (omega arith) (agrees_or (symbol_ok (width_of bs) (symbol (grammar_of bs) at_i.i)) 4 (omega arith) whole) (λ e. c.in_default.not-Symbol _ (q ∙ e))
+    ∙ at_i.invariant.2
 
 pub loop-i-preserved : goal.loop-i-preserved
 loop-i-preserved c =
     let bs = c.args.table.now in
-    let atx = c.loop-i in
-    let q = sym c.read_symbol-read.ensures ∙ c.enum_told-1.given.1 in (
+    let at_i = c.loop-i in
+    let q = sym c.read_symbol-read.ensures ∙ c.in-Symbol.is in (
       omega arith,
-      atx.invariant.1,
-      loop_goes (symbol_rule bs) (N bs) atx.i (omega arith) (agrees_or (symbol_ok (width_of bs) (symbol (grammar_of bs) atx.i)) 4 (omega arith) whole) _ (λ e. omega arith) q ∙ atx.invariant.2,
+      at_i.invariant.1,
+      loop_goes (symbol_rule bs) (N bs) at_i.i (omega arith) (agrees_or (symbol_ok (width_of bs) (symbol (grammar_of bs) at_i.i)) 4 (omega arith) whole) _ (λ e. omega arith) q ∙ at_i.invariant.2,
     )
 
 pub returns : goal.returns
 returns c =
     let bs = c.args.table.now in
-    let atx = c.loop-i in
-    first_ends (symbol_rule bs) (N bs) atx.i (omega arith) ∙ atx.invariant.2
+    let at_i = c.loop-i in
+    first_ends (symbol_rule bs) (N bs) at_i.i (omega arith) ∙ at_i.invariant.2
