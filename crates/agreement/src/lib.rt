@@ -3,7 +3,7 @@
 
 ghost use Rattle.std.specs.Prelude.{true, ◌↔◌, ◌≡◌, ◌≤◌, min};
 ghost use Rattle.rules.specs.Test as stated;
-ghost use Rattle.passes.specs.Slices.{at_entry, Tells};
+ghost use Rattle.passes.specs.Slices.{Tells, slices};
 ghost use Rattle.agreement.specs.Agreement.{blank_entry, case_of, held_in, record_in, AsTold, Alike, Tries};
 
 use grammar::{Broken, NODES, SLOTS};
@@ -172,7 +172,7 @@ fn as_told<'a>(
     productions: &'a [u16],
     kids: &'a [u16],
 ) -> bool
-    ensures { (result ≡ true) ↔ AsTold (at_entry symbols graphs productions kids) stored at first before e }
+    ensures { (result ≡ true) ↔ AsTold (slices symbols.now graphs.now productions.now kids.now) stored at first before e }
 {
     if numbers::wide(stored) <= at {
         return same_entry(e, blank());
@@ -198,7 +198,7 @@ fn alike<'e, 'a>(
     productions: &'a [u16],
     kids: &'a [u16],
 ) -> bool
-    ensures { (result ≡ true) ↔ Alike (at_entry symbols graphs productions kids) stored entries.now }
+    ensures { (result ≡ true) ↔ Alike (slices symbols.now graphs.now productions.now kids.now) stored entries.now }
 {
     let mut at: usize = 0;
     while at < entries.len() {
@@ -243,7 +243,7 @@ fn try_row<'t, 'a>(
 ) -> RowTried
     requires { room ≤ 4096 }
     ensures { Tries (stated.test table.now limit room) e
-        (at_entry symbols graphs productions kids) result }
+        (slices symbols.now graphs.now productions.now kids.now) result }
 {
     let mut row = [e; MOST_ENTRIES];
     let report = records::test(table, limit, &mut row[..room]);
@@ -264,8 +264,8 @@ pub fn agrees<'t, 'a>(
     kids: &'a [u16],
 ) -> bool
     ensures { (result ≡ true) ↔ Tells (stated.test table.now limit (min 4096 room))
-        (at_entry symbols graphs productions kids) report
-        (at_entry symbols graphs productions kids) }
+        (slices symbols.now graphs.now productions.now kids.now) report
+        (slices symbols.now graphs.now productions.now kids.now) }
 {
     let most = numbers::smaller(MOST_ENTRIES, room);
     let tried = try_row(

@@ -1,7 +1,7 @@
 // What `circ` prints: the test of a table, and the text of what comes back.
 #![tactic(auto)]
 
-ghost use Rattle.passes.specs.Slices.{at_entry, at_exit};
+ghost use Rattle.passes.specs.Slices.{slices};
 ghost use Rattle.answers.specs.Answered.{TestPrinted};
 
 // The text of the test of a table with at most `limit` closures. The stored entries are left at the front of the slices. Where the
@@ -16,8 +16,8 @@ pub fn test_text(
     kids: &mut [u16],
 ) -> usize
     ensures { TestPrinted table.now limit
-        (at_entry symbols graphs productions kids)
-        (at_exit symbols graphs productions kids)
+        (slices symbols.old graphs.old productions.old kids.old)
+        (slices symbols.new graphs.new productions.new kids.new)
         buf.old buf.new result }
 {
     let report = passes::test(table, limit, symbols, graphs, productions, kids);

@@ -5,7 +5,7 @@ use Rattle.rules.specs.declared.Report.{Report}
 use Rattle.rules.specs.declared.Entry.{Entry}
 use Rattle.rules.specs.Passes.{Outcome}
 use Rattle.rules.specs.Test.{test}
-pub use Rattle.steps.specs.Slices.{Slices, slices, lent, at_entry, at_exit, room_of}
+pub use Rattle.steps.specs.Slices.{Slices, slices, room_of}
 unfoldable pub use Rattle.steps.specs.Slices.{entry_at}
 
 -- ---- what a caller reads

@@ -10,7 +10,7 @@ ghost use Rattle.graph.specs.Trails.{trail, no_trail};
 ghost use Rattle.parts.specs.Rule.{taking};
 ghost use Rattle.rules.specs.Passes as stated;
 ghost use Rattle.rules.specs.Test.{system_in, report_with};
-ghost use Rattle.passes.specs.Slices.{lent, at_entry, at_exit, room_of, Tells, Tested};
+ghost use Rattle.passes.specs.Slices.{room_of, Tells, Tested, slices};
 ghost use Rattle.steps.specs.Step.{goes_on, counts, run_at};
 ghost use Rattle.turns.specs.Turning.{of_symbol, Numbers, Firsts};
 ghost use Rattle.passes.specs.Follow.{ending_of, unsaid, Follows, Roomy, InTurn, over, task_of, combos_in, halts, stored_at, parts_among, circle_over};
@@ -85,12 +85,12 @@ fn combine(
     left: u32,
     first: usize,
 ) -> Run
-    requires { InTurn task rights.now first (lent symbols graphs productions kids) (goes_on left first)
+    requires { InTurn task rights.now first (slices symbols.old graphs.old productions.old kids.old) (goes_on left first)
         × Numbers task.count first firsts.now × Firsts (of_symbol symbols.old rights.now) first task.count firsts.now }
     ensures { Follows task.room
         (over task rights.now edges.now (combos_in task rights.now first symbols.old))
-        (at_entry symbols graphs productions kids) (goes_on left first)
-        (at_exit symbols graphs productions kids) result }
+        (slices symbols.old graphs.old productions.old kids.old) (goes_on left first)
+        (slices symbols.new graphs.new productions.new kids.new) result }
 {
     let mut spare = left;
     let mut stored = first;
@@ -153,11 +153,11 @@ fn turn(
     room: usize,
     run: Run,
 ) -> Run
-    requires { (refusal table.now ≡ Good) × (number < P table.now) × Roomy room (lent symbols graphs productions kids) run × (run.course ≡ Course.Going) }
+    requires { (refusal table.now ≡ Good) × (number < P table.now) × Roomy room (slices symbols.old graphs.old productions.old kids.old) run × (run.course ≡ Course.Going) }
     ensures { Follows room (λ limit. stated.pass (system_in table.now) limit room
         (parts_among treed.now reached.now (grammar_of table.now) (number ∷ [])))
-        (at_entry symbols graphs productions kids) run
-        (at_exit symbols graphs productions kids) result }
+        (slices symbols.old graphs.old productions.old kids.old) run
+        (slices symbols.new graphs.new productions.new kids.new) result }
 {
     let production = tables::production_of(table, number);
     let rights = production.slots;
@@ -199,11 +199,11 @@ fn pass(
     room: usize,
     run: Run,
 ) -> Run
-    requires { (refusal table.now ≡ Good) × (count ≡ P table.now) × Roomy room (lent symbols graphs productions kids) run }
+    requires { (refusal table.now ≡ Good) × (count ≡ P table.now) × Roomy room (slices symbols.old graphs.old productions.old kids.old) run }
     ensures { Follows room (λ limit. stated.pass (system_in table.now) limit room
         (parts_among treed.now reached.now (grammar_of table.now) (up_from 0 count)))
-        (at_entry symbols graphs productions kids) run
-        (at_exit symbols graphs productions kids) result }
+        (slices symbols.old graphs.old productions.old kids.old) run
+        (slices symbols.new graphs.new productions.new kids.new) result }
 {
     let mut now = run;
     for number in 0..count {
@@ -254,11 +254,11 @@ fn passes(
     room: usize,
     limit: u32,
 ) -> Ending
-    requires { (refusal table.now ≡ Good) × (count ≡ P table.now) × (room ≡ room_of (lent symbols graphs productions kids)) }
+    requires { (refusal table.now ≡ Good) × (count ≡ P table.now) × (room ≡ room_of (slices symbols.old graphs.old productions.old kids.old)) }
     ensures { Tells (stated.passes (system_in table.now) limit room
         (parts_among treed.now reached.now (grammar_of table.now) (up_from 0 count)))
-        (at_entry symbols graphs productions kids) (unsaid result)
-        (at_exit symbols graphs productions kids) }
+        (slices symbols.old graphs.old productions.old kids.old) (unsaid result)
+        (slices symbols.new graphs.new productions.new kids.new) }
 {
     let mut now = steps::going_on(limit, 0);
     let mut begun: u16 = 0;
@@ -346,10 +346,10 @@ fn passes_over(
     kids: &mut [u16],
 ) -> Ending
     requires { refusal table.now ≡ Good }
-    ensures { Tells (stated.passes (system_in table.now) limit (room_of (at_entry symbols graphs productions kids))
+    ensures { Tells (stated.passes (system_in table.now) limit (room_of (slices symbols.old graphs.old productions.old kids.old))
         (taking (grammar_of table.now)))
-        (at_entry symbols graphs productions kids) (unsaid result)
-        (at_exit symbols graphs productions kids) }
+        (slices symbols.old graphs.old productions.old kids.old) (unsaid result)
+        (slices symbols.new graphs.new productions.new kids.new) }
 {
     let room = steps::room_of(symbols.len(), graphs.len(), productions.len(), kids.len());
     let header = tables::header_of(table);
@@ -380,8 +380,8 @@ pub fn test(
     kids: &mut [u16],
 ) -> Report
     ensures { Tested table.now limit
-        (at_entry symbols graphs productions kids) result
-        (at_exit symbols graphs productions kids) }
+        (slices symbols.old graphs.old productions.old kids.old) result
+        (slices symbols.new graphs.new productions.new kids.new) }
 {
     let checked = checks::check(table);
     if let Checked::Refused(broken) = checked {

@@ -6,8 +6,8 @@ ghost use Rattle.numbers.specs.Lists.{both};
 ghost use Rattle.graph.specs.Parts.{most_nodes};
 ghost use Rattle.lines.specs.Buffer.{line_bytes};
 ghost use Rattle.texts.specs.Lines.{first_line, root_line, link_text, links_text, circle_line, entry_lines, root_lines, rest, printed};
-ghost use Rattle.steps.specs.Slices.{room_for};
-ghost use Rattle.passes.specs.Slices.{lent, at_entry, room_of, entry_at, entries_to, read_out};
+ghost use Rattle.steps.specs.Slices.{room_for, slices};
+ghost use Rattle.passes.specs.Slices.{room_of, entry_at, entries_to, read_out, slices};
 ghost use Rattle.print.specs.Texts.{kids_in, entry_text, Placed, bytes_for, circle_bytes, link_bytes, enough, CirclePut, Printed};
 
 use grammar::{NODES, SLOTS};
@@ -46,10 +46,10 @@ fn entry_line(
     productions: &[u16],
     kids: &[u16],
 ) -> usize
-    requires { i < room_of (lent symbols graphs productions kids) }
+    requires { i < room_of (slices symbols.now graphs.now productions.now kids.now) }
     ensures { Placed
         (entry_text (kids_in table.now) i
-        (entry_at (at_entry symbols graphs productions kids) i))
+        (entry_at (slices symbols.now graphs.now productions.now kids.now) i))
         line_bytes at buf.old buf.new result }
 {
     let entry = steps::entry_of(symbols, graphs, productions, kids, i);
@@ -76,11 +76,11 @@ fn entry_lines(
     productions: &[u16],
     kids: &[u16],
 ) -> usize
-    requires { (count ≤ room_of (lent symbols graphs productions kids))
+    requires { (count ≤ room_of (slices symbols.now graphs.now productions.now kids.now))
         × (at + line_bytes * count ≤ length buf.old) }
     ensures { Placed
         (entry_lines (kids_in table.now) 0
-        (entries_to (at_entry symbols graphs productions kids) count))
+        (entries_to (slices symbols.now graphs.now productions.now kids.now) count))
         (line_bytes * count) at buf.old buf.new result }
 {
     let mut end = at;
@@ -181,12 +181,12 @@ fn rest_lines(
     productions: &[u16],
     kids: &[u16],
 ) -> usize
-    requires { (report.entries ≤ room_of (lent symbols graphs productions kids))
+    requires { (report.entries ≤ room_of (slices symbols.now graphs.now productions.now kids.now))
         × (at + line_bytes * (report.entries + 6) ≤ length buf.old) }
     ensures { Placed
         (rest report.answer
         (entry_lines (kids_in table.now) 0
-        (entries_to (at_entry symbols graphs productions kids) report.entries))
+        (entries_to (slices symbols.now graphs.now productions.now kids.now) report.entries))
         (root_lines (kids_in table.now) report))
         (line_bytes * (report.entries + 6)) at buf.old buf.new result }
 {
@@ -215,8 +215,8 @@ pub fn report_text(
 ) -> usize
     ensures { Printed
         (printed (kids_in table.now)
-        (read_out report (at_entry symbols graphs productions kids)))
-        (enough report (at_entry symbols graphs productions kids) buf.old)
+        (read_out report (slices symbols.now graphs.now productions.now kids.now)))
+        (enough report (slices symbols.now graphs.now productions.now kids.now) buf.old)
         buf.old buf.new result }
 {
     let entries = numbers::wide(report.entries);

@@ -4,8 +4,8 @@
 ghost use Rattle.std.specs.Prelude.{◌≡◌, ◌+◌, ◌*◌, ◌≤◌, min, length, take, drop};
 ghost use Rattle.numbers.specs.Lists.{written};
 ghost use Rattle.rules.specs.Test as stated;
-ghost use Rattle.steps.specs.Slices.{entry_in};
-ghost use Rattle.passes.specs.Slices.{lent, at_entry, at_exit, room_of, Tells, entries_to};
+ghost use Rattle.steps.specs.Slices.{entry_in, slices};
+ghost use Rattle.passes.specs.Slices.{room_of, Tells, entries_to, slices};
 ghost use Rattle.records.specs.Records.{RowTested};
 
 use grammar::SLOTS;
@@ -22,7 +22,7 @@ fn entry_of<'a>(
     kids: &'a [u16],
     i: usize,
 ) -> Entry
-    ensures { result ≡ entry_in (at_entry symbols graphs productions kids) i }
+    ensures { result ≡ entry_in (slices symbols.now graphs.now productions.now kids.now) i }
 {
     steps::entry_of(symbols, graphs, productions, kids, i)
 }
@@ -37,10 +37,10 @@ fn run<'t, 'a>(
     productions: &'a mut [u16],
     kids: &'a mut [u16],
 ) -> Report
-    requires { 4096 ≤ room_of (lent symbols graphs productions kids) }
+    requires { 4096 ≤ room_of (slices symbols.old graphs.old productions.old kids.old) }
     ensures { Tells (stated.test table.now limit (min 4096 room))
-        (at_entry symbols graphs productions kids) result
-        (at_exit symbols graphs productions kids) }
+        (slices symbols.old graphs.old productions.old kids.old) result
+        (slices symbols.new graphs.new productions.new kids.new) }
 {
     let most = numbers::smaller(MOST_ENTRIES, room);
     let slots = SLOTS * most;
@@ -63,8 +63,8 @@ fn store<'e, 'a>(
     kids: &'a [u16],
     n: usize,
 )
-    requires { (n ≤ length entries.old) × (n ≤ room_of (lent symbols graphs productions kids)) }
-    ensures { entries.new ≡ written (entries_to (at_entry symbols graphs productions kids) n) entries.old }
+    requires { (n ≤ length entries.old) × (n ≤ room_of (slices symbols.now graphs.now productions.now kids.now)) }
+    ensures { entries.new ≡ written (entries_to (slices symbols.now graphs.now productions.now kids.now) n) entries.old }
 {
     let mut i: usize = 0;
     while i < n {

@@ -1,8 +1,6 @@
 -- Entries in four parallel lent slices of numbers. Assumes nothing.
 use Rattle.std.specs.Prelude.{cond, List, ℕ, ◌*◌, ◌/◌, min, ltb, length, get_or, set, take, drop}
 use Rattle.std.proofs.lemmas.List.Edits.{sets}
-use Rattle.std.specs.Borrow.{Bor}
-use denote.Triple.Both.{Both}
 use Rattle.rules.specs.declared.Entry.{Entry}
 use Rattle.rules.specs.Passes.{no_entry}
 
@@ -14,20 +12,6 @@ pub record Slices : Type 0 where
 
 abbrev pub slices : List ℕ → List ℕ → List ℕ → List ℕ → Slices
 slices a b c d = record { symbols = a; graphs = b; productions = c; kids = d }
-
--- ---- the lent slices in a contract: what they hold when it is read, when the function is called, and when it has returned
-
-abbrev pub Lent : Type 0
-Lent = Bor (List ℕ)
-
-abbrev pub lent : Lent → Lent → Lent → Lent → Slices
-lent a b c d = slices a.now b.now c.now d.now
-
-abbrev pub at_entry : Both Lent Lent → Both Lent Lent → Both Lent Lent → Both Lent Lent → Slices
-at_entry a b c d = lent a.entry b.entry c.entry d.entry
-
-abbrev pub at_exit : Both Lent Lent → Both Lent Lent → Both Lent Lent → Both Lent Lent → Slices
-at_exit a b c d = lent a.exit b.exit c.exit d.exit
 
 -- ---- the room
 

@@ -4,7 +4,7 @@
 
 ghost use Rattle.std.specs.Prelude.{◌≡◌, ◌+◌, ◌≤◌, min, length, take, drop};
 ghost use Rattle.std.proofs.lemmas.List.Edits.{sets};
-ghost use Rattle.steps.specs.Slices.{room_for, entry_in, at_entry, at_exit, put_in};
+ghost use Rattle.steps.specs.Slices.{room_for, entry_in, put_in, slices};
 ghost use Rattle.steps.specs.Step.{goes_on, stops, seen_in, Judges, stores, entry_of, Tried};
 
 use grammar::SLOTS;
@@ -86,7 +86,7 @@ pub fn entry_of(
     kids: &[u16],
     i: usize,
 ) -> Entry
-    ensures { result ≡ entry_in (at_entry symbols graphs productions kids) i }
+    ensures { result ≡ entry_in (slices symbols.now graphs.now productions.now kids.now) i }
 {
     let room = room_of(symbols.len(), graphs.len(), productions.len(), kids.len());
     if room <= i {
@@ -195,8 +195,8 @@ fn put_entry(
     picked: &[u16; SLOTS],
     stored: usize,
 )
-    ensures { at_exit symbols graphs productions kids
-        ≡ put_in (at_entry symbols graphs productions kids) stored (entry_of task graph picked.now) }
+    ensures { slices symbols.new graphs.new productions.new kids.new
+        ≡ put_in (slices symbols.old graphs.old productions.old kids.old) stored (entry_of task graph picked.now) }
 {
     let room = room_of(symbols.len(), graphs.len(), productions.len(), kids.len());
     if stored < room {
@@ -256,8 +256,8 @@ pub fn try_one(
     stored: usize,
 ) -> Verdict
     ensures { Tried task edges.now picked.now left stored
-        (at_entry symbols graphs productions kids) result
-        (at_exit symbols graphs productions kids) }
+        (slices symbols.old graphs.old productions.old kids.old) result
+        (slices symbols.new graphs.new productions.new kids.new) }
 {
     let judged = judge(symbols, graphs, edges, task, picked, left, stored);
     let verdict = judged.verdict;

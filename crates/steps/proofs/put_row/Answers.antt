@@ -17,10 +17,6 @@ one_stored l i k vs h =
     let e : i + (k + 1) ≡ suc (i + k) = omega arith in
     rw (e, add-one k, drop-cons vs k 0 h)
 
--- TODO same-length
--- same_length : tie.Need-same-length invariant-loop decreases-loop
--- same_length c = c.before.loop.invariant.1
-
 pub loop-k-init : goal.loop-k-init
 loop-k-init c = (search rules, refl, rw add-zero)
 

@@ -1,4 +1,5 @@
 -- `steps::seen` meets its contract. The invariant: the entries from k on are not the symbol with the graph. Assumes nothing.
+use mathlib.Core.List.{List}
 use mathlib.Core.Path.{◌≡◌, refl, sym, ◌∙◌}
 use Prim.Native.Nat.{ℕ, ◌-◌, ◌≤◌}
 use borrow.Author.Rules.{rules}
@@ -12,30 +13,23 @@ use Rattle.steps.specs.Step.{seen_in}
 use Rattle.steps.proofs.seen.Goals as goal
 
 -- the entry that is looked at
-module _ (c : tie.At-loop invariant-loop decreases-loop) where
-  abbrev symbol : ℕ
-  symbol = get_or c.before.args.symbols.now (c.loop.k - 1) 0
-
-  abbrev graph : ℕ
-  graph = get_or c.before.args.graphs.now (c.loop.k - 1) 0
-
-  is_it : Decides (both (eqb symbol c.before.args.symbol) (eqb graph c.before.args.graph))
-      ((symbol ≡ c.before.args.symbol) × (graph ≡ c.before.args.graph))
-  is_it = both_decides (eq_decides symbol c.before.args.symbol) (eq_decides graph c.before.args.graph)
+is_it : (symbols graphs : List ℕ) (y g i : ℕ)
+    → Decides (both (eqb (get_or symbols i 0) y) (eqb (get_or graphs i 0) g)) ((get_or symbols i 0 ≡ y) × (get_or graphs i 0 ≡ g))
+is_it symbols graphs y g i = both_decides (eq_decides (get_or symbols i 0) y) (eq_decides (get_or graphs i 0) g)
 
 pub loop-k-init : goal.loop-k-init
 loop-k-init c = (search rules, refl)
 
 pub returns-then-graphs-k : goal.returns-then-graphs-k
 returns-then-graphs-k c =
-    sym (some_passes _ c.loop-k.k c.loop-k-test.true ((is_it c).passes (c.if-symbols-k.true, c.if-graphs-k.true)))
+    sym (some_passes _ c.loop-k.k c.loop-k-test.true ((is_it c.args.symbols.now c.args.graphs.now c.args.symbol c.args.graph (c.loop-k.k - 1)).passes (c.if-symbols-k.true, c.if-graphs-k.true)))
     ∙ c.loop-k.invariant.1
 
 pub loop-k-preserved-else-graphs-k : goal.loop-k-preserved-else-graphs-k
 loop-k-preserved-else-graphs-k c =
     (
       search rules,
-      some_fails _ c.loop-k.k c.loop-k-test.true (not_so (is_it c) (λ p. c.if-graphs-k.false p.1))
+      some_fails _ c.loop-k.k c.loop-k-test.true (not_so (is_it c.args.symbols.now c.args.graphs.now c.args.symbol c.args.graph (c.loop-k.k - 1)) (λ p. c.if-graphs-k.false p.1))
           ∙ c.loop-k.invariant.1,
     )
 
@@ -43,7 +37,7 @@ pub loop-k-preserved : goal.loop-k-preserved
 loop-k-preserved c =
     (
       search rules,
-      some_fails _ c.loop-k.k c.loop-k-test.true (not_so (is_it c) (λ p. c.if-symbols-k.false p.0)) ∙ c.loop-k.invariant.1,
+      some_fails _ c.loop-k.k c.loop-k-test.true (not_so (is_it c.args.symbols.now c.args.graphs.now c.args.symbol c.args.graph (c.loop-k.k - 1)) (λ p. c.if-symbols-k.false p.0)) ∙ c.loop-k.invariant.1,
     )
 
 pub returns : goal.returns
