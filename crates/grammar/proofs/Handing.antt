@@ -9,7 +9,6 @@ use lib.ListN.{length}
 use denote.Enum.Declared.{tag_of}
 use Rattle.numbers.specs.Lists.{below}
 use Rattle.grammar.specs.declared.Broken.TheVariants.{Record}
-use Rattle.grammar.specs.declared.Checked.{Checked}
 use Rattle.grammar.specs.declared.Checked.TheVariants.{Refused}
 use Rattle.grammar.specs.declared.Edge.{Edge}
 use Rattle.grammar.specs.declared.Read.{Read}

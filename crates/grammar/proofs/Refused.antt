@@ -1,5 +1,5 @@
 -- A table is refused exactly for the first rule that it breaks, with the first bad record. Assumes nothing.
-use mathlib.Core.Path.{◌≡◌, refl, sym, ap, subst, ◌∙◌}
+use mathlib.Core.Path.{◌≡◌, refl, sym, subst, ◌∙◌}
 use mathlib.Core.Bool.{Bool, true, false}
 use mathlib.Core.List.{List}
 use Prim.Native.Nat.{ℕ, zero, suc, ◌-◌, ◌≤◌, ◌<◌}
@@ -11,7 +11,7 @@ use Rattle.numbers.proofs.Decides.{Decides, Outcome, holds, fails, outcome, not_
 use Rattle.grammar.specs.declared.Checked.{Checked}
 use Rattle.grammar.specs.declared.Checked.TheVariants.{Good, Refused}
 use Rattle.grammar.specs.declared.Broken.{Broken}
-use Rattle.grammar.specs.declared.Broken.TheVariants.{Rule, Record}
+use Rattle.grammar.specs.declared.Broken.TheVariants.{Record}
 use Rattle.grammar.specs.Grammar.{Grammar, symbol, production}
 use Rattle.grammar.specs.Table.{N, P, E, width_of, grammar_of}
 use Rattle.grammar.specs.Rules.{CountsInRange, OffsetsRight, ProductionThere, OccurrencesThere, AttributesThere, TargetAllowed, AboveBefore, AllGood, FirstBad, SymbolGood, ProductionGood, EdgeGood, EdgeBreaks, no_production_lem, no_occurrence, no_attribute, not_allowed, not_above, BeforeRecords, BeforeEdges, Breaks, header_short, counts, offsets, symbol_bad, production_bad, edge_bad, key, edge}

@@ -12,7 +12,7 @@ use Rattle.grammar.specs.declared.Checked.{Checked}
 use Rattle.grammar.specs.declared.Checked.TheVariants.{Good}
 use Rattle.grammar.specs.Grammar.{no_symbol, no_production}
 use Rattle.grammar.specs.Table.{N, E, width_of, edge_in, grammar_of}
-use Rattle.grammar.specs.Rules.{GoodSymbol, GoodProduction, GoodEdge, AllGood, EdgeGood, BeforeEdges, Breaks, edge, key, no_edge}
+use Rattle.grammar.specs.Rules.{GoodSymbol, GoodProduction, GoodEdge, AllGood, EdgeGood, BeforeEdges, edge, key, no_edge}
 use Rattle.grammar.specs.Search.{producing}
 use Rattle.grammar.specs.Refusal.{refusal}
 use Rattle.grammar.specs.Valid.{Valid, TakenIsValid}

@@ -1,5 +1,5 @@
 -- The first rule that a table breaks, and the first bad record, computed. Assumes nothing.
-use Rattle.std.specs.Prelude.{Bool, true, false, cond, List, [], ◌∷◌, ℕ, zero, suc, ◌-◌, ◌^◌, leb, ltb, eqb, length, drop}
+use Rattle.std.specs.Prelude.{Bool, true, false, cond, List, ℕ, zero, suc, ◌-◌, ◌^◌, leb, ltb, eqb, length, drop}
 use Rattle.numbers.specs.Number.{bit, le4}
 use Rattle.numbers.specs.Lists.{both, every, below}
 use Rattle.grammar.specs.declared.Symbol.{Symbol}

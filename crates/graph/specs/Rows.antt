@@ -1,6 +1,6 @@
 -- A graph is a list of rows, one for each node: bit j of row i says that an edge leads from node i to node j.
 -- All is over the number w of attributes that an occurrence has. Assumes nothing.
-use Rattle.std.specs.Prelude.{Bool, true, false, cond, List, [], ◌∷◌, ◌++◌, map, ℕ, zero, suc, ◌+◌, ◌*◌, ◌/◌, ◌%◌, ◌^◌, ltb, length, get_or, set, replicate}
+use Rattle.std.specs.Prelude.{Bool, true, false, cond, List, [], ◌∷◌, map, ℕ, zero, suc, ◌+◌, ◌*◌, ◌/◌, ◌%◌, ◌^◌, ltb, length, get_or, set, replicate}
 use Rattle.std.specs.Int.Bits.{bit_or}
 use Rattle.numbers.specs.Number.{bit}
 use Rattle.grammar.specs.declared.Node.{Node}

@@ -2,7 +2,6 @@
 use mathlib.Core.Path.{sym, ap, ◌∙◌}
 use Prim.Native.Nat.{ℕ}
 use native.Mathlib.Omega.{arith}
-use borrow.Author.Rules.{rules}
 use Rattle.numbers.proofs.Bits.{power_fits}
 use Rattle.graph.specs.Rows.{join_at}
 use Rattle.graph.proofs.Turns.{link_there, link_no_target, link_no_source}

@@ -1,13 +1,10 @@
 -- `compounds::add_edges` meets its contract. The loop's invariant: the edges that are left make of the rows now what all make of them at
 -- the start. Assumes nothing.
-use mathlib.Core.Path.{◌≡◌, sym, ap, ap₂, ◌∙◌}
-use Prim.Native.Nat.{ℕ, ◌+◌, ◌*◌, ◌-◌, ◌≤◌}
-use native.Mathlib.Nat.{sub-zero}
-use native.Mathlib.Omega.{arith}
-use borrow.Author.Rules.{rules}
+use mathlib.Core.Path.{◌≡◌}
+use Prim.Native.Nat.{◌*◌, ◌-◌, ◌≤◌}
 use Rattle.grammar.specs.Table.{edge_in, edges_in}
-use Rattle.graph.specs.Rows.{link, own}
-use Rattle.graph.proofs.Turns.{own_from, own_more, own_done}
+use Rattle.graph.specs.Rows.{own}
+use Rattle.graph.proofs.Turns.{own_from}
 use Rattle.compounds.proofs.add_edges.Given as goal
 
 abbrev pub invariant-loop-e : goal.invariant-loop-e

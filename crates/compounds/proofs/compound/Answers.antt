@@ -1,6 +1,5 @@
 -- `compounds::compound` meets its contract. Assumes nothing.
 use mathlib.Core.Path.{ap, ◌∙◌}
-use borrow.Author.Rules.{rules}
 use Rattle.graph.specs.Rows.{placed_from}
 use Rattle.compounds.specs.Combination.{picked_graphs}
 use Rattle.compounds.proofs.compound.Goals as goal

@@ -1,7 +1,5 @@
 -- `compounds::graph_of` meets its contract. Assumes nothing.
 use mathlib.Core.Path.{sym}
-use borrow.Author.Rules.{rules}
-use native.Mathlib.Omega.{arith}
 use lib.ListN.{get_or-eq_default}
 use Rattle.compounds.proofs.graph_of.Goals as goal
 

@@ -1,5 +1,4 @@
 -- `compounds::place` meets its contract. Assumes nothing.
-use borrow.Author.Rules.{rules}
 use Rattle.compounds.proofs.place.Goals as goal
 
 pub returns : goal.returns

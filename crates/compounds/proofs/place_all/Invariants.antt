@@ -1,14 +1,10 @@
 -- `compounds::place_all` meets its contract. The invariant: the pairs that are left make of the rows now what all make of them at the start.
 -- Assumes nothing.
-use mathlib.Core.Path.{◌≡◌, refl, sym, ap, ◌∙◌}
-use mathlib.Core.List.{List}
-use Prim.Native.Nat.{ℕ, suc, ◌≤◌, ◌+◌, ◌-◌, min}
-use borrow.Author.Rules.{rules}
-use native.Mathlib.Omega.{arith}
-use lib.ListN.{length, drop}
-use Rattle.graph.specs.Rows.{placed, placed_from}
+use mathlib.Core.Path.{◌≡◌}
+use Prim.Native.Nat.{suc, ◌≤◌, ◌-◌}
+use lib.ListN.{drop}
+use Rattle.graph.specs.Rows.{placed_from}
 use Rattle.compounds.specs.Combination.{picked_graphs}
-use Rattle.compounds.proofs.Placing.{length_picked, picked_at, one_placed, none_left}
 use Rattle.compounds.proofs.place_all.Given as goal
 
 abbrev pub invariant-loop-k : goal.invariant-loop-k

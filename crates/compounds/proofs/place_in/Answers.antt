@@ -1,9 +1,8 @@
 -- `compounds::place_in` meets its contract. The loop's invariant: the pairs that begin in the first a attributes are placed. Assumes nothing.
 use mathlib.Core.Path.{◌≡◌, refl, sym, ◌∙◌}
-use Prim.Native.Nat.{◌*◌, ◌/◌, ◌^◌, ◌-◌, ◌≤◌}
+use Prim.Native.Nat.{◌*◌, ◌/◌, ◌^◌}
 use native.Mathlib.Omega.{arith}
-use lib.ListN.{length, length-set}
-use borrow.Author.Rules.{rules}
+use lib.ListN.{length-set}
 use Rattle.numbers.proofs.Bits.{block_fits}
 use Rattle.graph.specs.Rows.{placed_to}
 use Rattle.graph.proofs.Turns.{placed_more, placed_out}

@@ -1,12 +1,8 @@
 -- `compounds::place_in` meets its contract. The loop's invariant: the pairs that begin in the first a attributes are placed. Assumes nothing.
-use mathlib.Core.Path.{◌≡◌, refl, sym, ◌∙◌}
-use Prim.Native.Nat.{◌*◌, ◌/◌, ◌^◌, ◌-◌, ◌≤◌}
-use native.Mathlib.Omega.{arith}
-use lib.ListN.{length, length-set}
-use borrow.Author.Rules.{rules}
-use Rattle.numbers.proofs.Bits.{block_fits}
+use mathlib.Core.Path.{◌≡◌}
+use Prim.Native.Nat.{◌-◌, ◌≤◌}
+use lib.ListN.{length}
 use Rattle.graph.specs.Rows.{placed_to}
-use Rattle.graph.proofs.Turns.{placed_more, placed_out}
 use Rattle.compounds.proofs.place_in.Given as goal
 
 abbrev pub invariant-loop-a : goal.invariant-loop-a

@@ -1,6 +1,5 @@
 -- `edges::in_order` meets its contract. Assumes nothing.
 use mathlib.Core.Path.{◌∙◌}
-use borrow.Author.Rules.{rules}
 use Rattle.grammar.proofs.Handing.{order_first, order_later}
 use Rattle.edges.proofs.in_order.Goals as goal
 

@@ -1,7 +1,6 @@
 -- `edges::occurrences_ok` meets its contract. Assumes nothing.
 use borrow.Author.Tests.{lt-leb, le-leb}
 use Rattle.numbers.specs.Lists.{both}
-use borrow.Author.Rules.{rules}
 use Rattle.edges.proofs.occurrences_ok.Goals as goal
 
 pub returns-then-n-e : goal.returns-then-n-e

@@ -3,7 +3,6 @@ use mathlib.Core.Path.{ap, ◌∙◌}
 use Prim.Native.Nat.{◌+◌, ◌*◌}
 use Rattle.numbers.specs.Number.{le2}
 use Rattle.grammar.proofs.Lookups.{count_read}
-use borrow.Author.Rules.{rules}
 use Rattle.edges.proofs.rights_of.Goals as goal
 
 pub returns : goal.returns

@@ -7,7 +7,6 @@ use Rattle.grammar.specs.Grammar.{production}
 use Rattle.grammar.specs.Table.{grammar_of}
 use Rattle.grammar.proofs.Lookups.{left_read, slot_read, slots_seven}
 use Rattle.grammar.proofs.Occurrences.{at_left, at_right, at_none, at_slot_none}
-use borrow.Author.Rules.{rules}
 use Rattle.edges.proofs.symbol_at.Goals as goal
 
 pub returns-then-occurrence-eq0 : goal.returns-then-occurrence-eq0

@@ -2,7 +2,6 @@
 use mathlib.Core.Path.{ap, ◌∙◌}
 use lib.Dec.{eqb}
 use Rattle.grammar.proofs.Occurrences.{allowed_left, allowed_right}
-use borrow.Author.Rules.{rules}
 use Rattle.edges.proofs.target_ok.Goals as goal
 
 pub returns-then-e-eq0 : goal.returns-then-e-eq0

@@ -4,7 +4,6 @@ use Prim.Native.Nat.{◌*◌}
 use native.Mathlib.Omega.{arith}
 use lib.ListN.{length, take}
 use lib.Seq.{length-take-le}
-use borrow.Author.Rules.{rules}
 use Rattle.numbers.proofs.Parts.{take_clipped}
 use Rattle.graph.specs.declared.Nearest.{Nearest}
 use Rattle.graph.specs.Search.{path_of, nearest_to, circle_of}

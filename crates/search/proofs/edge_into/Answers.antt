@@ -3,7 +3,6 @@ use mathlib.Core.Path.{ap, ◌∙◌}
 use Prim.Native.Nat.{ℕ, ◌/◌}
 use native.Mathlib.Omega.{arith}
 use lib.Dec.{eqb}
-use borrow.Author.Rules.{rules}
 use Rattle.grammar.proofs.Occurrences.{allowed_left, allowed_right}
 use Rattle.graph.specs.Marks.{edge_into}
 use Rattle.search.proofs.edge_into.Goals as goal

@@ -2,7 +2,6 @@
 use Prim.Native.Nat.{◌^◌}
 use native.Mathlib.Omega.{arith}
 use lib.Bits.{bit_and}
-use borrow.Author.Rules.{rules}
 use Rattle.numbers.proofs.Bits.{power_fits}
 use Rattle.graph.proofs.Searching.{joined, not_joined}
 use Rattle.search.proofs.gained.Goals as goal

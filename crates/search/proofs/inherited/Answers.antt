@@ -4,7 +4,6 @@ use Prim.Native.Nat.{◌/◌, ◌%◌, ◌^◌}
 use native.Mathlib.Omega.{arith}
 use lib.Bits.{and_mask}
 use lib.ListN.{get_or, get_or-eq_default}
-use borrow.Author.Rules.{rules}
 use Rattle.numbers.specs.Number.{bit}
 use Rattle.numbers.proofs.Bits.{bit_zero}
 use Rattle.search.proofs.inherited.Goals as goal

@@ -1,6 +1,5 @@
 -- `search::mark` meets its contract. Assumes nothing.
 use mathlib.Core.Path.{sym, ap, ◌∙◌}
-use borrow.Author.Rules.{rules}
 use Rattle.graph.specs.Marks.{mark_of}
 use Rattle.search.proofs.mark.Goals as goal
 

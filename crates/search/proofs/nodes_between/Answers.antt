@@ -1,13 +1,10 @@
 -- `search::nodes_between` meets its contract. The loop's invariant: the set has the nodes from which k links lead to y, and what is left to search gives what the whole gives. Assumes nothing.
-use mathlib.Core.Path.{◌≡◌}
-use Prim.Native.Nat.{◌-◌, ◌/◌, ◌^◌, ◌≤◌}
+use Prim.Native.Nat.{◌/◌, ◌^◌}
 use native.Mathlib.Omega.{arith}
 use lib.Bits.{and_mask}
-use lib.ListN.{take}
-use borrow.Author.Rules.{rules}
 use Rattle.numbers.proofs.Bits.{power_fits}
 use Rattle.graph.specs.Search.{level}
-use Rattle.graph.proofs.Searching.{level_more, BetweenFrom, between_begun, between_hit, between_skip, between_over}
+use Rattle.graph.proofs.Searching.{level_more, between_begun, between_hit, between_skip, between_over}
 use Rattle.search.proofs.nodes_between.Goals as goal
 
 pub loop-k-init : goal.loop-k-init

@@ -5,7 +5,6 @@ use Prim.Native.Nat.{ℕ, suc}
 use native.Mathlib.Omega.{arith}
 use lib.ListN.{take}
 use lib.Seq.{length-take-le}
-use borrow.Author.Rules.{rules}
 use Rattle.numbers.specs.Number.{bit}
 use Rattle.graph.specs.Search.{level, least_between}
 use Rattle.graph.specs.Trails.{trail_of}

@@ -4,7 +4,6 @@ use mathlib.Core.List.{List}
 use Prim.Native.Nat.{ℕ, ◌*◌}
 use native.Mathlib.Omega.{arith}
 use lib.ListN.{take, length-take}
-use borrow.Author.Rules.{rules}
 use Rattle.numbers.proofs.Parts.{take_clipped}
 use Rattle.graph.specs.Search.{path_of}
 use Rattle.graph.specs.Trails.{trail_of}

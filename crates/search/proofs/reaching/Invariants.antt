@@ -1,12 +1,8 @@
 -- `search::reaching` meets its contract. The loop's invariant: the set has the nodes from which d links lead to y. Assumes nothing.
 use mathlib.Core.Path.{◌≡◌}
 use Prim.Native.Nat.{◌-◌, ◌≤◌}
-use native.Mathlib.Omega.{arith}
 use lib.ListN.{take}
-use borrow.Author.Rules.{rules}
-use Rattle.numbers.proofs.Bits.{power_fits}
 use Rattle.graph.specs.Search.{level}
-use Rattle.graph.proofs.Searching.{level_more}
 use Rattle.search.proofs.reaching.Given as goal
 
 abbrev pub invariant-loop-d : goal.invariant-loop-d

@@ -1,11 +1,8 @@
 -- `search::smallest` meets its contract. The loop's invariant: what is left to search gives what the whole gives. Assumes nothing.
-use mathlib.Core.Path.{◌≡◌, sym}
-use Prim.Native.Nat.{ℕ, ◌-◌, ◌/◌, ◌^◌, ◌≤◌}
+use mathlib.Core.Path.{sym}
+use Prim.Native.Nat.{◌/◌, ◌^◌}
 use native.Mathlib.Omega.{arith}
 use lib.Bits.{and_mask}
-use borrow.Author.Rules.{rules}
-use Rattle.numbers.specs.Number.{bit}
-use Rattle.graph.specs.Search.{first_from, lowest}
 use Rattle.graph.proofs.FirstFrom.{begun, hit, skip, over}
 use Rattle.search.proofs.smallest.Goals as goal
 

@@ -1,9 +1,6 @@
 -- `search::sources` meets its contract. The loop's invariant: r has the nodes below i. Assumes nothing.
 use mathlib.Core.Path.{◌≡◌, refl}
-use Prim.Native.Nat.{◌-◌, ◌≤◌}
 use native.Mathlib.Omega.{arith}
-use lib.ListN.{take}
-use borrow.Author.Rules.{rules}
 use Rattle.graph.specs.Search.{into}
 use Rattle.graph.proofs.Searching.{into_more}
 use Rattle.search.proofs.sources.Goals as goal

@@ -1,11 +1,8 @@
 -- `search::sources` meets its contract. The loop's invariant: r has the nodes below i. Assumes nothing.
-use mathlib.Core.Path.{◌≡◌, refl}
+use mathlib.Core.Path.{◌≡◌}
 use Prim.Native.Nat.{◌-◌, ◌≤◌}
-use native.Mathlib.Omega.{arith}
 use lib.ListN.{take}
-use borrow.Author.Rules.{rules}
 use Rattle.graph.specs.Search.{into}
-use Rattle.graph.proofs.Searching.{into_more}
 use Rattle.search.proofs.sources.Given as goal
 
 abbrev pub invariant-loop-i : goal.invariant-loop-i

@@ -1,12 +1,8 @@
 -- `search::start_among` meets its contract. The loop's invariant: b is the one of the nodes below s. Assumes nothing.
-use mathlib.Core.Path.{◌≡◌, sym, ap}
-use Prim.Native.Nat.{ℕ, ◌-◌, ◌≤◌}
-use native.Mathlib.Omega.{arith}
+use mathlib.Core.Path.{◌≡◌}
+use Prim.Native.Nat.{◌-◌, ◌≤◌}
 use lib.ListN.{take}
-use lib.Seq.{length-take-le}
-use borrow.Author.Rules.{rules}
 use Rattle.graph.specs.Search.{nearest_to}
-use Rattle.graph.proofs.Searching.{nearest_more}
 use Rattle.search.proofs.start_among.Given as goal
 
 abbrev pub invariant-loop-s : goal.invariant-loop-s

@@ -1,11 +1,7 @@
 -- `search::written` meets its contract. The loop's invariant: i nodes after x are written, with the marks of the links to them. Assumes nothing.
-use mathlib.Core.Path.{sym}
 use Prim.Native.Nat.{◌-◌, ◌≤◌, ◌<◌}
-use native.Mathlib.Omega.{arith}
 use lib.ListN.{take}
-use lib.Seq.{length-take-le}
-use borrow.Author.Rules.{rules}
-use Rattle.graph.proofs.Searching.{Writing, writing_begun, next_low, writing_more, writing_done}
+use Rattle.graph.proofs.Searching.{Writing}
 use Rattle.search.proofs.written.Given as goal
 
 abbrev pub invariant-loop-i : goal.invariant-loop-i

@@ -2,7 +2,6 @@
 use mathlib.Core.Path.{sym, ap, ◌∙◌}
 use Prim.Native.Nat.{◌+◌, ◌*◌}
 use native.Mathlib.Omega.{arith}
-use borrow.Author.Rules.{rules}
 use Rattle.grammar.specs.Table.{at_edges, edge_in}
 use Rattle.grammar.proofs.Lookups.{edge_past}
 use Rattle.tables.proofs.edge_at.Goals as goal

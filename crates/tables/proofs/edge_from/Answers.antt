@@ -1,5 +1,4 @@
 -- `tables::edge_from` meets its contract. Assumes nothing.
-use borrow.Author.Rules.{rules}
 use Rattle.grammar.specs.Table.{edge_in}
 use Rattle.tables.proofs.edge_from.Goals as goal
 

@@ -1,5 +1,4 @@
 -- `tables::node_in` meets its contract. Assumes nothing.
-use borrow.Author.Rules.{rules}
 use Rattle.tables.proofs.node_in.Goals as goal
 
 pub returns : goal.returns

@@ -1,6 +1,5 @@
 -- `tables::production_from` meets its contract. Assumes nothing.
 use mathlib.Core.Path.{sym, ◌∙◌}
-use borrow.Author.Rules.{rules}
 use Rattle.grammar.specs.Table.{production_in}
 use Rattle.grammar.proofs.Lookups.{slots_are, slots_by}
 use Rattle.tables.proofs.production_from.Goals as goal

@@ -2,7 +2,6 @@
 use mathlib.Core.Path.{ap, ◌∙◌}
 use Prim.Native.Nat.{◌+◌, ◌-◌}
 use native.Mathlib.Omega.{arith}
-use borrow.Author.Rules.{rules}
 use Rattle.grammar.specs.Table.{production_in}
 use Rattle.grammar.proofs.Lookups.{production_in_part}
 use Rattle.tables.proofs.production_in.Goals as goal

@@ -2,7 +2,6 @@
 use mathlib.Core.Path.{sym, ap, ◌∙◌}
 use Prim.Native.Nat.{◌+◌, ◌*◌}
 use native.Mathlib.Omega.{arith}
-use borrow.Author.Rules.{rules}
 use Rattle.grammar.specs.Table.{production_in}
 use Rattle.grammar.proofs.Lookups.{production_there, production_none}
 use Rattle.tables.proofs.production_of.Goals as goal

@@ -1,10 +1,7 @@
 -- `tables::seek_from` meets its contract. The steps that are left, from where the search stands, lead where all of them lead. Assumes nothing.
-use mathlib.Core.Path.{◌≡◌, refl, sym, ap, ◌∙◌}
-use Prim.Native.Nat.{◌≤◌, ◌-◌, ◌^◌}
-use native.Mathlib.Omega.{arith}
-use borrow.Author.Rules.{rules}
-use Rattle.grammar.specs.Search.{further, seek}
-use Rattle.grammar.proofs.Seeking.{further_ahead, further_inside, seek_none, seek_more, shifted, step_range}
+use mathlib.Core.Path.{◌≡◌}
+use Prim.Native.Nat.{◌≤◌}
+use Rattle.grammar.specs.Search.{seek}
 use Rattle.tables.proofs.seek_from.Given as goal
 
 abbrev pub invariant-loop-k : goal.invariant-loop-k

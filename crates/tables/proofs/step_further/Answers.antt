@@ -2,7 +2,6 @@
 use mathlib.Core.Path.{◌≡◌, sym, ap, ◌∙◌}
 use Prim.Native.Nat.{◌+◌, ◌-◌, ◌*◌}
 use native.Mathlib.Omega.{arith}
-use borrow.Author.Rules.{rules}
 use Rattle.numbers.specs.Number.{le2}
 use Rattle.grammar.specs.Search.{producing}
 use Rattle.grammar.proofs.Seeking.{further_few, further_on, further_not}

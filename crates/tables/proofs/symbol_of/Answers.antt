@@ -2,7 +2,6 @@
 use mathlib.Core.Path.{◌≡◌, sym, ap, ◌∙◌}
 use Prim.Native.Nat.{◌+◌, ◌*◌}
 use native.Mathlib.Omega.{arith}
-use borrow.Author.Rules.{rules}
 use Rattle.grammar.specs.Table.{symbol_in}
 use Rattle.grammar.proofs.Lookups.{symbol_there, symbol_none}
 use Rattle.tables.proofs.symbol_of.Goals as goal

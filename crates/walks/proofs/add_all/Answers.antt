@@ -12,10 +12,6 @@ use Rattle.parts.proofs.Sets.{IsSet, add_set}
 use Rattle.walks.proofs.Steps.{all_next, all_done}
 use Rattle.walks.proofs.add_all.Goals as goal
 
--- TODO same-length
--- same_length : tie.Need-same-length invariant-loop decreases-loop
--- same_length c = c.before.loop.invariant.1.four ∙ sym c.before.before.before.before.before.requires.is_set.four
-
 pub loop-k-init : goal.loop-k-init
 loop-k-init c = (search rules, c.requires.is_set, refl)
 

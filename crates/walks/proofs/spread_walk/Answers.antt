@@ -13,10 +13,6 @@ use Rattle.walks.proofs.Steps.{added_nothing, added_more, added_same, spread_is}
 use Rattle.walks.proofs.Orders.{walk_next, walk_done}
 use Rattle.walks.proofs.spread_walk.Goals as goal
 
--- TODO same-length
--- same_length : tie.Need-same-length invariant-loop decreases-loop
--- same_length c = c.before.loop.invariant.3.four ∙ sym c.before.before.before.before.before.before.before.before.before.requires.1.four
-
 pub loop-i-init : goal.loop-i-init
 loop-i-init c =
     let h = c.header_of.ensures in
