@@ -1,14 +1,12 @@
 -- The moves step by step, from the last place down. Assumes nothing.
-use mathlib.Core.Path.{◌≡◌, refl, sym, ap, ap₂, ◌∙◌}
+use mathlib.Core.Path.{◌≡◌, ap, ap₂, ◌∙◌}
 use mathlib.Core.Bool.{Bool, true, false}
 use mathlib.Core.List.{List}
-use Prim.Native.Nat.{ℕ, zero, suc, ◌-◌, ◌≤◌, ◌<◌}
+use Prim.Native.Nat.{ℕ, suc, ◌-◌, ◌≤◌, ◌<◌}
 use native.Mathlib.Omega.{arith}
-use lib.Dec.{ltb}
 use lib.ListN.{get_or, set}
 use borrow.Author.Tests.{lt-ltb, le-ltb}
 use Rattle.candidates.specs.Next.{next_of}
-use Rattle.turns.specs.declared.Newest.{Newest}
 use Rattle.turns.specs.Moves.{Moved, moved, firsts_to, moved_to, Found}
 use Rattle.turns.specs.Skips.{newest_to}
 

@@ -1,7 +1,7 @@
 -- The turn without the combinations whose entries are all old: it begins at the first of the others, and goes on from one to the next.
 -- Assumes nothing.
 use mathlib.Core.Path.{◌≡◌, refl, sym, ap, ◌∙◌}
-use mathlib.Core.Bool.{Bool, true, false, cond, false≢true}
+use mathlib.Core.Bool.{Bool, true, false, false≢true}
 use mathlib.Core.List.{List, [], ◌∷◌}
 use mathlib.Core.Logic.{◌⊎◌, inl, inr, ⊎_elim}
 use Prim.Native.Nat.{ℕ, zero, suc, ◌≤◌, ◌<◌}
@@ -16,12 +16,12 @@ use Rattle.numbers.specs.Lists.{both, every, keep}
 use Rattle.candidates.specs.Next.{next_of}
 use Rattle.turns.specs.declared.Newest.{Newest}
 use Rattle.turns.specs.Combos.{combos_of, behind, First}
-use Rattle.turns.specs.Moves.{Moved, moved_to}
+use Rattle.turns.specs.Moves.{Moved}
 use Rattle.turns.specs.Skips.{all_below, with_new, newest_to, skipped}
 use Rattle.turns.specs.Turning.{of_symbol, Numbers, Firsts, GoesOn}
 use Rattle.turns.proofs.Odometer.{begins}
-use Rattle.turns.proofs.Turning.{numbers_long, numbers_set, set_at, Candidate, candidate, goes_on}
-use Rattle.turns.proofs.Skipping.{All, one_new, nothing_new, skips, NoneNew}
+use Rattle.turns.proofs.Turning.{numbers_long, numbers_set, set_at, Candidate, candidate}
+use Rattle.turns.proofs.Skipping.{All, one_new, skips, NoneNew}
 
 apart : (a b : ℕ) → (a < b) ⊎ (b ≤ a)
 apart a b = go (dec_lt a b)
@@ -237,8 +237,8 @@ module _ (symbols₀ symbols rights : List ℕ) (first places old : ℕ) (few : 
               let v = goes.moved_at more in
               ⊎_elim
               (λ a. rw (← v.before j a) (next_old j l))
-              (λ a. ⊎_elim
-              (λ z. let k : j ≡ at = omega (arith, z) in
+              (λ (a : at ≤ j). ⊎_elim
+              (λ (z : at ≡ j). let k : j ≡ at = omega (arith, z) in
               rw k (omega (arith, v.further, next_old at v.low)))
               (λ b. last.later j (get_or picked j 0) (omega (arith, b, h)) l (lively.numbers.below j l) (lively.hits j l))
               (eq-or-lt_of_le a))

@@ -1,21 +1,19 @@
 -- The moves of the code are those of the turn: it begins at the first combination and goes on to the next, until there is none.
 -- Assumes nothing.
 use mathlib.Core.Path.{◌≡◌, refl, sym, ap, ◌∙◌}
-use mathlib.Core.Bool.{Bool, true, false, cond, false≢true}
+use mathlib.Core.Bool.{Bool, true, false, false≢true}
 use mathlib.Core.List.{List, [], ◌∷◌, ◌++◌, map}
-use mathlib.Core.Logic.{⊎_elim}
 use Prim.Native.Nat.{ℕ, zero, suc, ◌-◌, ◌≤◌, ◌<◌}
-use native.Mathlib.Nat.{eq-or-lt_of_le}
 use native.Mathlib.Omega.{arith}
 use lib.Dec.{eqb, ltb}
 use lib.ListN.{length, get_or, set, take, replicate, length-take, length-set, length-map}
 use lib.Seq.{set-append_left, take-set-lt, get_or-set_same, get_or-set_other}
 use borrow.Author.Tests.{eq-eqb, ne_eqb, eqb-true, eqb-false, ltb-true, ltb-false}
-use Rattle.numbers.specs.Lists.{up_from, keep}
+use Rattle.numbers.specs.Lists.{up_from}
 use Rattle.numbers.proofs.Ranges.{length_up_from, at_below}
 use Rattle.rules.specs.Passes.{seven, prefixed, combinations}
 use Rattle.rules.proofs.Stored.{length_seven}
-use Rattle.candidates.specs.Next.{next_of, Next}
+use Rattle.candidates.specs.Next.{next_of}
 use Rattle.candidates.proofs.Seeking.{next_of_lem}
 use Rattle.turns.specs.Combos.{candidates_from, combos_of, behind, First}
 use Rattle.turns.specs.Moves.{Moved, moved, firsts_to, moved_to}

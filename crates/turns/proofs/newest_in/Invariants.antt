@@ -1,10 +1,6 @@
 -- `turns::newest_in` meets its contract. The invariant: what is found from here on is what is to be found. Assumes nothing.
-use mathlib.Core.Path.{◌≡◌, refl, sym, ◌∙◌}
-use Prim.Native.Nat.{ℕ}
-use borrow.Author.Rules.{rules}
-use native.Mathlib.Omega.{arith}
+use Rattle.std.proofs.Common.{◌≡◌}
 use Rattle.turns.specs.Skips.{newest_to}
-use Rattle.turns.proofs.Moving.{newest_none, newest_hit, newest_back}
 use Rattle.turns.proofs.newest_in.Given as goal
 
 abbrev pub invariant-loop-k : goal.invariant-loop-k
