@@ -6,8 +6,6 @@ use native.Mathlib.Decide.{dec_lt}
 use native.Mathlib.Omega.{arith}
 use lib.ListN.{length, get_or, take, drop, length-map, length-take, get_or-eq_default}
 use lib.Seq.{take_at}
-use types.Run.{OneOf, miss}
-use denote.Enum.Declared.{tag_of}
 use Rattle.numbers.specs.Lists.{written}
 use Rattle.numbers.proofs.Members.{at_map}
 use Rattle.grammar.specs.Grammar.{production, rights}
@@ -30,9 +28,9 @@ use Rattle.passes.specs.Slices.{Slices, Tells}
 use Rattle.passes.specs.Follow.{circle_over}
 
 -- where the answer is not circular
-pub none_said : (bs gs root : List ℕ) (a : Answer) → OneOf (0 ∷ 2 ∷ 3 ∷ 4 ∷ []) (tag_of the_type a) → no_trail ≡ circle_over bs gs root a
+pub none_said : (bs gs root : List ℕ) (a : Answer) → ((p : ℕ) → a ≡ Circular p → ⊥) → no_trail ≡ circle_over bs gs root a
 none_said bs gs root Noncircular k = refl
-none_said bs gs root (Circular p) k = absurd (miss (0 ∷ 2 ∷ 3 ∷ 4 ∷ []) 1 tt k)
+none_said bs gs root (Circular p) k = absurd (k p refl)
 none_said bs gs root (Refused b) k = refl
 none_said bs gs root OutOfSteps k = refl
 none_said bs gs root OutOfRoom k = refl

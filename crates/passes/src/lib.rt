@@ -59,6 +59,7 @@ fn stored_after(verdict: Verdict, stored: usize) -> usize
 }
 
 // The run after a verdict, where `left` closures were left before.
+#[tactic(auto, unfolding(steps::specs::Step::run_at))]
 fn run_after(verdict: Verdict, number: u16, picked: [u16; SLOTS], left: u32, stored: usize) -> Run
     requires { (counts verdict ≡ true → 1 ≤ left) × (stored ≤ 4096) }
     ensures { result ≡ run_at verdict number picked left stored }

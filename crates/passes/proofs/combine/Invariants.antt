@@ -1,0 +1,39 @@
+-- `passes::combine` meets its contract. The invariant: what is done, the picked combination and what comes after it are all combinations
+-- of the turn. The measure is how many come after. Assumes nothing.
+use mathlib.Core.Path.{◌≡◌, refl, sym, ap, ◌∙◌, subst}
+use mathlib.Core.Bool.{false}
+use mathlib.Core.List.{List, ◌∷◌}
+use Prim.Native.Nat.{ℕ, ◌-◌}
+use borrow.Author.Rules.{rules}
+use borrow.Author.Tests.{not-true, not-false}
+use native.Mathlib.Omega.{arith}
+use lib.ListN.{length, take}
+use Rattle.steps.specs.declared.Run.{Run}
+use Rattle.steps.specs.declared.Task.{Task}
+use Rattle.steps.specs.declared.Verdict.{Verdict}
+use Rattle.steps.specs.Step.{goes_on, run_at}
+use Rattle.turns.specs.Combos.{behind}
+use Rattle.turns.specs.Moves.{Moved, moved_to}
+use Rattle.turns.specs.Turning.{of_symbol, Numbers, GoesOn}
+use Rattle.turns.proofs.Odometer.{begins}
+use Rattle.passes.specs.Slices.{Slices, slices}
+use Rattle.passes.specs.Follow.{Kept, InTurn, combos_in, halts}
+use Rattle.passes.proofs.Following.{kept_ready}
+use Rattle.passes.proofs.Six.{follows_tried, tried_left, halted, goes_counted}
+use Rattle.passes.proofs.Six as six
+use Rattle.passes.proofs.Combining.{symbols_stay, Left, left_start, left_same, left_end, left_stop, left_tried}
+use Rattle.passes.proofs.combine.Given as goal
+
+-- the combinations that come after the picked numbers
+abbrev pub after : List ℕ → List ℕ → ℕ → Task → List ℕ → List (List ℕ)
+after symbols rights first k picked = behind (of_symbol symbols rights) first k.count k.count picked
+
+abbrev pub invariant-loop-picked : goal.invariant-loop-picked
+invariant-loop-picked l =
+    Left l.task l.rights l.edges (combos_in l.task l.rights l.first l.initial.symbols) (slices l.initial.symbols l.initial.graphs l.initial.productions l.initial.kids) (goes_on l.left l.first)
+    (take l.task.count l.picked ∷ after l.initial.symbols l.rights l.first l.task l.picked) (slices l.symbols l.graphs l.productions l.kids) (goes_on l.spare l.stored)
+    × Numbers l.task.count l.first l.picked
+
+abbrev pub decreases-loop-picked : goal.decreases-loop-picked
+decreases-loop-picked l =
+    length (after l.initial.symbols l.rights l.first l.task l.picked)

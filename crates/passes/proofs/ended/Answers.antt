@@ -1,0 +1,7 @@
+-- `passes::ended` meets its contract. Assumes nothing.
+use mathlib.Core.Path.{refl}
+use borrow.Author.Rules.{rules}
+use Rattle.passes.proofs.ended.Goals as goal
+
+pub returns : goal.returns
+returns c = refl

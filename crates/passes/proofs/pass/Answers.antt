@@ -1,0 +1,55 @@
+-- `passes::pass` meets its contract. The invariant: the turns of the productions passed are followed. Assumes nothing.
+use mathlib.Core.Bool.{Bool}
+use mathlib.Core.Path.{◌≡◌, subst}
+use Prim.Native.Nat.{ℕ, ◌≤◌, ◌-◌}
+use borrow.Author.Rules.{rules}
+use native.Mathlib.Omega.{arith}
+use Rattle.numbers.specs.Lists.{up_from}
+use Rattle.grammar.specs.Grammar.{production}
+use Rattle.grammar.specs.Table.{grammar_of}
+use Rattle.parts.specs.Rule.{takes_part}
+use Rattle.rules.specs.Passes.{System}
+use Rattle.rules.specs.Test.{system_in}
+use Rattle.passes.specs.Slices.{Slices, slices}
+use Rattle.passes.specs.Follow.{Follows, Kept, Roomy}
+use Rattle.passes.proofs.Following.{kept_roomy}
+use Rattle.passes.proofs.Passing.{through, pass_start, pass_more, pass_stop}
+use Rattle.passes.proofs.Tables.{few_productions}
+use Rattle.passes.proofs.pass.Goals as goal
+
+pub loop-number-init : goal.loop-number-init
+loop-number-init c =
+    (search rules, pass_start (system_in c.args.table.now) c.args.room _ _ c.args.run c.requires.2.stored)
+
+pub returns-in-Stopped : goal.returns-in-Stopped
+returns-in-Stopped c =
+    let a = c.args in
+    let l = c.loop-number in
+    pass_stop (system_in a.table.now) a.room (λ p. takes_part a.treed.now a.reached.now (production (grammar_of a.table.now) p)) _ a.run _
+    l.now l.number l.invariant.1 a.count l.invariant.0 _ c.in-Stopped.is
+
+pub turn-now-requires : goal.turn-now-requires
+turn-now-requires c =
+    let a = c.args in
+    let l = c.loop-number in
+    (c.requires.0, omega arith, kept_roomy a.room _ a.run _ l.now l.invariant.1.kept c.requires.2, c.in_default.is)
+
+pub loop-number-preserved : goal.loop-number-preserved
+loop-number-preserved c =
+    let a = c.args in
+    let l = c.loop-number in (
+      omega arith,
+      pass_more (system_in a.table.now) a.room (λ p. takes_part a.treed.now a.reached.now (production (grammar_of a.table.now) p)) _ a.run _
+          l.now l.number l.invariant.1 _ _ c.turn-now.ensures,
+    )
+
+pub returns : goal.returns
+returns c =
+    let a = c.args in
+    let l = c.loop-number in
+    let e : l.number ≡ a.count = omega arith in
+    subst
+    (λ (n : ℕ). Follows a.room
+    (through (system_in a.table.now) a.room (λ p. takes_part a.treed.now a.reached.now (production (grammar_of a.table.now) p)) (up_from 0 n))
+    (slices a.symbols.now a.graphs.now a.productions.now a.kids.now) a.run (slices l.symbols l.graphs l.productions l.kids) l.now) e
+    l.invariant.1

@@ -1,0 +1,28 @@
+-- `passes::passes_over` meets its contract. Assumes nothing.
+use mathlib.Core.Path.{◌≡◌, ap, ◌∙◌}
+use mathlib.Core.List.{List}
+use Prim.Native.Nat.{ℕ}
+use borrow.Author.Rules.{rules}
+use Rattle.grammar.specs.declared.Header.{Header}
+use Rattle.grammar.specs.Table.{P}
+use Rattle.grammar.specs.Reading.{header_of}
+use Rattle.passes.specs.Slices.{slices}
+use Rattle.passes.proofs.Testing.{passes_taken, tells_same}
+use Rattle.passes.proofs.passes_over.Goals as goal
+
+-- as many productions as the header says
+counted : (bs : List ℕ) (h : Header) (n : ℕ) → h ≡ header_of bs → n ≡ h.productions → n ≡ P bs
+counted bs h n e f = f ∙ ap (λ (h : Header). h.productions) e
+
+pub passes-requires : goal.passes-requires
+passes-requires c =
+    (c.requires, counted c.args.table.now _ _ c.header_of-header.ensures c.wide-count.ensures, c.room_of-room.ensures)
+
+pub returns : goal.returns
+returns c =
+    let a = c.args in
+    tells_same
+    (passes_taken a.table.now a.limit _ _ c.treed_of-treed.result _ (slices a.symbols.now a.graphs.now a.productions.now a.kids.now) c.requires
+    (counted a.table.now _ _ c.header_of-header.ensures c.wide-count.ensures) c.room_of-room.ensures c.treed_of-treed.ensures
+    c.reached_of-reached.ensures)
+    c.passes.ensures

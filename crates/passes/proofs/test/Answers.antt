@@ -1,0 +1,51 @@
+-- `passes::test` meets its contract. Assumes nothing.
+use mathlib.Core.Path.{◌≡◌, sym, ap, ◌∙◌}
+use mathlib.Core.List.{List}
+use Prim.Native.Nat.{ℕ, ◌≤◌}
+use borrow.Author.Rules.{rules}
+use native.Mathlib.Omega.{arith}
+use lib.ListN.{length}
+use Rattle.grammar.specs.declared.Checked.TheVariants.{Good}
+use Rattle.grammar.specs.Table.{grammar_of}
+use Rattle.grammar.specs.Refusal.{refusal}
+use Rattle.parts.specs.Rule.{taking}
+use Rattle.rules.specs.declared.Report.{Report}
+use Rattle.rules.specs.Passes.{Outcome, passes}
+use Rattle.rules.specs.Test.{system_in}
+use Rattle.rules.proofs.Stored.{Counted, counted_passes_in}
+use Rattle.passes.specs.Slices.{Slices, slices, room_of, Tells}
+use Rattle.passes.specs.Follow.{unsaid}
+use Rattle.passes.proofs.Circles.{saying_told}
+use Rattle.passes.proofs.Told.{entries_fit}
+use Rattle.passes.proofs.Testing.{test_taken, test_refused, tells_refused, tells_same}
+use Rattle.passes.proofs.test.Goals as goal
+
+-- what the passes have left of a table that is taken
+module _ (bs : List ℕ) (limit : ℕ) {σ τ : Slices} {r : Report} (told : Tells (passes (system_in bs) limit (room_of σ) (taking (grammar_of bs))) σ r τ) where
+  stored : Counted (room_of σ) (passes (system_in bs) limit (room_of σ) (taking (grammar_of bs)))
+  stored = counted_passes_in bs limit (room_of σ) _
+
+  fits : r.entries ≤ length τ.graphs
+  fits =
+      omega
+      (arith, ap (λ (x : Report). x.entries) told.report, stored.count, (entries_fit _ σ r τ stored.sound.slots told).1)
+
+pub returns-in-Refused : goal.returns-in-Refused
+returns-in-Refused c =
+    tells_refused _ _ _
+    (test_refused c.args.table.now _ _ _ (sym c.check-checked.ensures ∙ c.in-Refused.is))
+    c.no_trail.ensures
+
+pub passes_over-ending-requires : goal.passes_over-ending-requires
+passes_over-ending-requires c = sym c.check-checked.ensures ∙ c.in_default.is
+
+pub reported-requires : goal.reported-requires
+reported-requires c = (sym c.check-checked.ensures ∙ c.in_default.is, fits c.args.table.now c.args.limit c.passes_over-ending.ensures)
+
+pub returns : goal.returns
+returns c =
+    let a = c.args in
+    let σ = slices a.symbols.now a.graphs.now a.productions.now a.kids.now in
+    let told = c.passes_over-ending.ensures in
+    tells_same (test_taken a.table.now a.limit (room_of σ) (sym c.check-checked.ensures ∙ c.in_default.is))
+    (saying_told a.table.now _ σ _ _ (stored a.table.now a.limit told).count told c.reported.ensures)

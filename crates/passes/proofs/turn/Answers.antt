@@ -1,0 +1,136 @@
+-- `passes::turn` meets its contract. Assumes nothing.
+use mathlib.Core.Bool.{Bool, true, false}
+use mathlib.Core.List.{List}
+use mathlib.Core.Path.{◌≡◌, refl, sym, ap, ◌∙◌, subst}
+use Prim.Native.Nat.{ℕ, ◌≤◌}
+use borrow.Author.Rules.{rules}
+use borrow.Author.Tests.{not-true, not-false}
+use native.Mathlib.Omega.{arith}
+use lib.ListN.{length, replicate}
+use Rattle.grammar.specs.declared.Production.{Production}
+use Rattle.grammar.specs.Grammar.{production}
+use Rattle.grammar.specs.Table.{grammar_of}
+use Rattle.grammar.specs.Reading.{run_of}
+use Rattle.grammar.specs.Refusal.{refusal}
+use Rattle.grammar.specs.declared.Checked.TheVariants.{Good}
+use Rattle.graph.proofs.Tables.{few_rights}
+use Rattle.parts.specs.Rule.{takes_part}
+use Rattle.steps.specs.declared.Run.{Run}
+use Rattle.steps.specs.declared.Task.{Task}
+use Rattle.rules.specs.Passes.{System, turn}
+use Rattle.rules.specs.Test.{system_in}
+use Rattle.turns.specs.Moves.{Moved, Found, firsts_to}
+use Rattle.turns.specs.Turning.{of_symbol, Numbers, Firsts, Begins}
+use Rattle.turns.proofs.Turning.{begins}
+use Rattle.passes.specs.Slices.{Slices, slices}
+use Rattle.passes.specs.Follow.{Follows, Roomy, task_of}
+use Rattle.passes.proofs.Following.{follows_going}
+use Rattle.passes.proofs.Combining.{over_none}
+use Rattle.passes.proofs.Passing.{part_turn, part_skip, part_still}
+use Rattle.passes.proofs.Tables.{few_productions, turn_ready, task_turn}
+use Rattle.passes.proofs.turn.Goals as goal
+
+-- the first candidates are looked for, of as many right symbols as the production has
+module _ (bs : List ℕ) (good : refusal bs ≡ Good) (p room : ℕ) (σ : Slices) (run : Run) (roomy : Roomy room σ run) (found : Production)
+    (read : found ≡ production (grammar_of bs) p) where
+  slots_are : found.slots ≡ (production (grammar_of bs) p).slots
+  slots_are = ap (λ (x : Production). x.slots) read
+
+  few : found.n ≤ 7
+  few = rw read (few_rights bs good p)
+
+  held : run.stored ≤ length σ.symbols
+  held = omega (arith, roomy.stored, roomy.symbols)
+
+  abbrev first_of : ℕ → Moved
+  first_of n = firsts_to σ.symbols found.slots run.stored n (replicate 7 0)
+
+  begun : {n : ℕ} → n ≡ found.n → Begins (of_symbol σ.symbols found.slots) run.stored found.n (first_of n)
+  begun e =
+      subst (λ (n : ℕ). Begins (of_symbol σ.symbols found.slots) run.stored found.n (first_of n)) (sym e)
+      (begins σ.symbols σ.symbols found.slots run.stored found.n few held (λ i l. refl))
+
+  made : task_of p found room ≡ task_of p (production (grammar_of bs) p) room
+  made = ap (λ (x : Production). task_of p x room) read
+
+  module _ {n : ℕ} (all : n ≡ found.n) {more : Bool} {firsts : List ℕ} (looked : Found (first_of n) more firsts) where
+    -- there is none
+    nothing : more ≡ false → Follows room (λ limit. turn (system_in bs) limit room p) σ run σ run
+    unfolding task_of
+    nothing h =
+        task_turn bs good p room σ run (task_of p found room) made found.slots slots_are (run_of bs p) refl σ run
+        (over_none (task_of p found room) found.slots (run_of bs p) σ run _ ((begun all).none (sym looked.more_is ∙ h)) roomy.stored)
+
+    -- the turn has its task
+    module _ (some : more ≡ true) (k : Task) (is : k ≡ task_of p found room) where
+      count_is : found.n ≡ k.count
+      unfolding task_of
+      count_is = ap (λ (t : Task). t.count) (sym is)
+
+      numbers : Numbers k.count run.stored firsts
+      numbers =
+          subst (λ (xs : List ℕ). Numbers k.count run.stored xs) (sym looked.numbers_are)
+          (subst (λ (i : ℕ). Numbers i run.stored (first_of n).numbers) count_is ((begun all).numbers (sym looked.more_is ∙ some)))
+
+      each : Firsts (of_symbol σ.symbols found.slots) run.stored k.count firsts
+      each =
+          subst (λ (xs : List ℕ). Firsts (of_symbol σ.symbols found.slots) run.stored k.count xs) (sym looked.numbers_are)
+          (subst (λ (i : ℕ). Firsts (of_symbol σ.symbols found.slots) run.stored i (first_of n).numbers) count_is
+          ((begun all).firsts (sym looked.more_is ∙ some)))
+
+-- what the test of the production says
+told : (treed reached : List ℕ) (found asked : Production) (b : Bool) → found ≡ asked → b ≡ takes_part treed reached found
+    → b ≡ takes_part treed reached asked
+told treed reached found asked b read e = e ∙ ap (takes_part treed reached) read
+
+pub overflow_cast-first : goal.overflow_cast-first
+overflow_cast-first c = omega (arith, c.requires.2.stored, c.requires.2.small)
+
+pub returns-then-not-first_candidates : goal.returns-then-not-first_candidates
+returns-then-not-first_candidates c =
+    let a = c.args in
+    let p = c.production_of-production in
+    part_still (system_in a.table.now) a.room (λ i. takes_part a.treed.now a.reached.now (production (grammar_of a.table.now) i)) a.number _
+    a.run c.requires.2.stored
+    (nothing a.table.now c.requires.0 a.number a.room _ a.run c.requires.2 p.result p.ensures c.wide-count.ensures
+    c.first_candidates.ensures c.if-not-first_candidates.true)
+
+pub returns-then-not-takes_part : goal.returns-then-not-takes_part
+returns-then-not-takes_part c =
+    let a = c.args in
+    let p = c.production_of-production in
+    let part = told a.treed.now a.reached.now p.result _ _ p.ensures c.takes_part.ensures in
+    part_skip (system_in a.table.now) a.room (λ i. takes_part a.treed.now a.reached.now (production (grammar_of a.table.now) i)) a.number _
+    a.run (sym part ∙ c.if-not-takes_part.true) c.requires.2.stored
+
+pub task_of-task-requires : goal.task_of-task-requires
+task_of-task-requires c = omega (arith, c.requires.1, few_productions c.args.table.now c.requires.0)
+
+pub combine-requires : goal.combine-requires
+combine-requires c =
+    let a = c.args in
+    let p = c.production_of-production in
+    let k = c.task_of-task in
+    let looked = c.first_candidates.ensures in
+    let some = c.if-not-first_candidates.false in (
+      turn_ready a.table.now c.requires.0 a.number a.room _ a.run c.requires.2 k.result
+          (k.ensures ∙ made a.table.now c.requires.0 a.number a.room _ a.run c.requires.2 p.result p.ensures) p.result.slots
+          (slots_are a.table.now c.requires.0 a.number a.room _ a.run c.requires.2 p.result p.ensures),
+      numbers a.table.now c.requires.0 a.number a.room _ a.run c.requires.2 p.result p.ensures c.wide-count.ensures looked some k.result
+          k.ensures,
+      each a.table.now c.requires.0 a.number a.room _ a.run c.requires.2 p.result p.ensures c.wide-count.ensures looked some k.result
+          k.ensures,
+    )
+
+pub returns : goal.returns
+returns c =
+    let a = c.args in
+    let p = c.production_of-production in
+    let k = c.task_of-task in
+    let part = told a.treed.now a.reached.now p.result _ _ p.ensures c.takes_part.ensures in
+    part_turn (system_in a.table.now) a.room (λ i. takes_part a.treed.now a.reached.now (production (grammar_of a.table.now) i)) a.number _
+    a.run (sym part ∙ c.if-not-takes_part.false) _ _
+    (task_turn a.table.now c.requires.0 a.number a.room _ a.run k.result
+    (k.ensures ∙ made a.table.now c.requires.0 a.number a.room _ a.run c.requires.2 p.result p.ensures) p.result.slots
+    (slots_are a.table.now c.requires.0 a.number a.room _ a.run c.requires.2 p.result p.ensures) _ c.run_of-edges.ensures _ _
+    (follows_going k.result.room _ _ a.run _ _ c.requires.3 c.combine.ensures))
