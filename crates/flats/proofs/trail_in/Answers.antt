@@ -1,16 +1,13 @@
 -- `flats::trail_in` meets its contract. Assumes nothing.
-use mathlib.Core.Path.{◌≡◌, refl, sym, ap, ap₂, ◌∙◌}
+use mathlib.Core.Path.{◌≡◌, sym, ap, ap₂, ◌∙◌}
 use mathlib.Core.List.{List, ◌∷◌, ◌++◌}
 use Prim.Native.Nat.{ℕ, suc}
 use native.Mathlib.Omega.{arith}
-use lib.ListN.{length, get_or, take, drop, set, length-set, length-drop, take-append-drop}
-use lib.Seq.{take-suc, take_all, get_or-take, get_or-set_same}
+use lib.ListN.{length, get_or, drop, length-drop, take-append-drop}
+use lib.Seq.{take_all, get_or-take, get_or-set_same}
 use borrow.Author.Rules.{rules}
 use Rattle.flats.specs.Flat.{Begun}
 use Rattle.flats.proofs.trail_in.Goals as goal
-
-begun_none : {nodes marks : List ℕ} (out : List ℕ) → length out ≡ 129 → Begun nodes marks (get_or out 0 0) 0 out
-begun_none out l = record { long = l; nodes = take-suc out 0 0 (omega arith); marks = refl }
 
 begun_first : {nodes marks out : List ℕ} {x i : ℕ} → Begun nodes marks x i out → get_or out 0 0 ≡ x
 begun_first {out = out} {i = i} s = sym (get_or-take (suc i) out 0 0 (omega arith)) ∙ ap (λ (l : List ℕ). get_or l 0 0) s.nodes
@@ -21,16 +18,6 @@ begun_all {nodes} {marks} {out} {x} s n m =
     sym (take-append-drop 65 out)
     ∙ ap₂ (λ (l r : List ℕ). l ++ r) (s.nodes ∙ ap (λ (l : List ℕ). x ∷ l) (take_all 64 nodes (omega arith)))
     (sym (take_all 64 (drop 65 out) (omega (arith, length-drop 65 out, s.long))) ∙ s.marks ∙ take_all 64 marks (omega arith))
-
-pub links_in-requires : goal.links_in-requires
-links_in-requires c =
-    let out = c.args.out.now in
-    let n = c.number.result in
-    (search rules, search rules, omega arith, omega arith, begun_none (set out 0 n) (length-set out 0 n ∙ c.requires))
-
-pub links_in-requires-2 : goal.links_in-requires-2
-links_in-requires-2 c =
-    (search rules, search rules, omega arith, omega arith, rw (begun_first c.links_in.ensures) c.links_in.ensures)
 
 pub returns : goal.returns
 returns c =
