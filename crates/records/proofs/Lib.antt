@@ -1,6 +1,4 @@
 -- Laws that belong to no one function.
 pub mod ByRecord
 pub mod EntryIn
-pub mod Four
-pub mod Scratch
 pub mod OneReading

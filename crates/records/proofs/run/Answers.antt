@@ -16,8 +16,7 @@ use Rattle.passes.specs.Slices.{Slices, slices, room_of, all_kids, Tells, Tested
 use Rattle.passes.proofs.Testing.{tells_same}
 use Rattle.passes.proofs.Told.{length_kids}
 use Rattle.rows.proofs.Writing.{written_front}
-use Rattle.records.proofs.run.Statement.{statement}
-use Rattle.records.proofs.run.Tie as tie
+use Rattle.records.proofs.run.Goals as goal
 
 module _ (bs : List ℕ) (limit room n : ℕ) (σ : Slices) (places : 4096 ≤ room_of σ) (most : n ≡ min 4096 room) where
   -- the parts that are lent
@@ -27,8 +26,8 @@ module _ (bs : List ℕ) (limit room n : ℕ) (σ : Slices) (places : 4096 ≤ r
   abbrev o : Outcome
   o = test bs limit n
 
-  room-is : room_of lent ≡ n
-  room-is =
+  room_is : room_of lent ≡ n
+  room_is =
       omega (
         arith,
         places,
@@ -61,7 +60,7 @@ module _ (bs : List ℕ) (limit room n : ℕ) (σ : Slices) (places : 4096 ≤ r
 
     whole : Tells (test bs limit (min 4096 room)) σ r after
     whole =
-        let part : Tells o lent r τ = tells_same (ap (test bs limit) room-is) told in
+        let part : Tells o lent r τ = tells_same (ap (test bs limit) room_is) told in
         tells_same (ap (test bs limit) most)
         (record {
           report = part.report;
@@ -73,75 +72,8 @@ module _ (bs : List ℕ) (limit room n : ℕ) (σ : Slices) (places : 4096 ≤ r
               (omega (arith, length_kids o.entries counted.sound.slots, counted.sound.fits)) (omega (arith, places));
         })
 
-smaller-requires : tie.Need-smaller-requires
-smaller-requires c κs = search rules
-
-mul-slots : tie.Need-overflow-mul-slots
-mul-slots c = search rules
-
-slice-relend-prefix-test : tie.Need-slice-relend-prefix-test
-slice-relend-prefix-test c = search rules
-
-slice-aggregate-test : tie.Need-slice-aggregate-test
-slice-aggregate-test c = sym (length-take-le _ _ (search rules))
-
-slice-relend-prefix-test-2 : tie.Need-slice-relend-prefix-test-2
-slice-relend-prefix-test-2 c = search rules
-
-slice-aggregate-test-2 : tie.Need-slice-aggregate-test-2
-slice-aggregate-test-2 c = sym (length-take-le _ _ (search rules))
-
-slice-relend-prefix-test-3 : tie.Need-slice-relend-prefix-test-3
-slice-relend-prefix-test-3 c = search rules
-
-slice-aggregate-test-3 : tie.Need-slice-aggregate-test-3
-slice-aggregate-test-3 c = sym (length-take-le _ _ (search rules))
-
-slice-relend-prefix-test-4 : tie.Need-slice-relend-prefix-test-4
-slice-relend-prefix-test-4 c = search rules
-
-slice-aggregate-test-4 : tie.Need-slice-aggregate-test-4
-slice-aggregate-test-4 c = sym (length-take-le _ _ (search rules))
-
-test-requires : tie.Need-test-requires
-test-requires c κs = search rules
-
-same_length : tie.Need-same-length
-same_length c = search rules
-
-same-length-2 : tie.Need-same-length-2
-same-length-2 c = search rules
-
-same-length-3 : tie.Need-same-length-3
-same-length-3 c = search rules
-
-same-length-4 : tie.Need-same-length-4
-same-length-4 c = search rules
-
-returns : tie.Need-returns
+pub returns : goal.returns
 returns c =
-    let tested = c.before.before.before.before.before.before.before.before in
-    let smaller = tested.before.before.before.before.before in
-    let start = smaller.before.before.before.before.before.before in
-    whole _ _ _ _ _ start.requires smaller.smaller.ensures _ _ tested.test.ensures
-
-pub run_spec : {M : Type 1} → statement M
-run_spec =
-    tie.close
-    (tie.spec
-    smaller-requires
-    mul-slots
-    slice-relend-prefix-test
-    slice-aggregate-test
-    slice-relend-prefix-test-2
-    slice-aggregate-test-2
-    slice-relend-prefix-test-3
-    slice-aggregate-test-3
-    slice-relend-prefix-test-4
-    slice-aggregate-test-4
-    test-requires
-    same_length
-    same-length-2
-    same-length-3
-    same-length-4
-    returns)
+    let a = c.args in
+    whole a.table.now a.limit a.room c.smaller-most.result (slices a.symbols.now a.graphs.now a.productions.now a.kids.now) c.requires
+    c.smaller-most.ensures _ _ c.test.ensures
