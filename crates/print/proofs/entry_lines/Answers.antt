@@ -1,0 +1,35 @@
+-- Each turn has one entry's line more behind it. Assumes nothing.
+use mathlib.Core.Path.{◌≡◌, refl}
+use Prim.Native.Nat.{◌*◌, ◌-◌, ◌≤◌}
+use native.Mathlib.Omega.{arith}
+use borrow.Author.Rules.{rules}
+use Rattle.lines.specs.Buffer.{line_bytes}
+use Rattle.texts.specs.Lines.{entry_lines}
+use Rattle.passes.specs.Slices.{slices, entries_to}
+use Rattle.print.specs.Texts.{kids_in, Placed}
+use Rattle.print.proofs.Placing.{nothing, within, then, placed_length, one_more}
+use Rattle.print.proofs.entry_lines.Goals as goal
+
+-- TODO same-length
+-- same_length : tie.Need-same-length invariant-loop decreases-loop
+-- same_length c = (placed_length (omega arith) c.before.loop.invariant.1).0
+
+pub loop-i-init : goal.loop-i-init
+unfolding entry_lines entries_to
+loop-i-init c =
+    let args = c.args in
+    (search rules, within refl (omega arith) (nothing args.at args.buf.now (search rules)))
+
+pub loop-i-preserved : goal.loop-i-preserved
+loop-i-preserved c =
+    let a = c.args in
+    let σ = slices a.symbols.now a.graphs.now a.productions.now a.kids.now in (
+      search rules,
+      within (one_more (kids_in a.table.now) σ c.loop-i.i) (omega arith)
+          (then (omega arith) c.loop-i.invariant.1 c.entry_line-end.ensures),
+    )
+
+pub returns : goal.returns
+returns c =
+    let all : c.loop-i.i ≡ c.args.count = omega arith in
+    rw all at c.loop-i.invariant.1

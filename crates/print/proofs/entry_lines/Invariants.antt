@@ -1,0 +1,19 @@
+-- Each turn has one entry's line more behind it. Assumes nothing.
+use mathlib.Core.Path.{◌≡◌, refl}
+use Prim.Native.Nat.{◌*◌, ◌-◌, ◌≤◌}
+use native.Mathlib.Omega.{arith}
+use borrow.Author.Rules.{rules}
+use Rattle.lines.specs.Buffer.{line_bytes}
+use Rattle.texts.specs.Lines.{entry_lines}
+use Rattle.passes.specs.Slices.{slices, entries_to}
+use Rattle.print.specs.Texts.{kids_in, Placed}
+use Rattle.print.proofs.Placing.{nothing, within, then, placed_length, one_more}
+use Rattle.print.proofs.entry_lines.Given as goal
+
+abbrev pub invariant-loop-i : goal.invariant-loop-i
+invariant-loop-i l =
+    (l.i ≤ l.count)
+    × Placed (entry_lines (kids_in l.table) 0 (entries_to (slices l.symbols l.graphs l.productions l.kids) l.i)) (line_bytes * l.i) l.at l.initial.buf l.buf l.end
+
+abbrev pub decreases-loop-i : goal.decreases-loop-i
+decreases-loop-i l = l.count - l.i
