@@ -97,13 +97,11 @@ same_report a b t c h w l n p r k = (
 )
 
 -- a test that is true exactly if P holds has said no, or yes
-pub said_no : {P : Type 0} (b : Bool) → (b ≡ true) ↔ P → not b ≡ true → ¬ P
-said_no true t h p = true≢false (sym h)
-said_no false t h p = true≢false (sym (t.1 p))
+pub said_no : {P : Type 0} (b : Bool) → (b ≡ true) ↔ P → b ≡ false → ¬ P
+said_no b t h p = true≢false (sym (t.1 p) ∙ h)
 
-pub said_yes : {P : Type 0} (b : Bool) → (b ≡ true) ↔ P → not b ≡ false → P
-said_yes true t h = t.0 refl
-said_yes false t h = absurd (true≢false h)
+pub said_yes : {P : Type 0} (b : Bool) → (b ≡ true) ↔ P → b ≡ true → P
+said_yes b t h = t.0 h
 
 -- two lists of the same length that begin the same as far as they go
 pub whole : (n : ℕ) (xs ys : List ℕ) → length xs ≡ n → length ys ≡ n → take n xs ≡ take n ys → xs ≡ ys
