@@ -9,9 +9,9 @@ use grammar::{
     EDGE_BYTES, HEADER_BYTES, MOST_EDGES, MOST_PRODUCTIONS, MOST_SYMBOLS, PRODUCTION_BYTES, SLOTS,
     SYMBOL_BYTES,
 };
-use libc::{STDERR_FILENO, STDIN_FILENO, STDOUT_FILENO};
 use lines::LINE_BYTES;
 use print::OTHER_LINES;
+use std::io::{Read, Write};
 
 // The most closures, and the room for entries.
 const LIMIT: u32 = 1_000_000;
@@ -38,16 +38,14 @@ enum Input {
 }
 
 // Reads until the buffer is full or the input ends. An interrupted read counts as one that failed: no signal is caught here.
-fn read_input(buf: &mut [u8]) -> Input
+fn read_input<R: Read>(input: &mut R, buf: &mut [u8]) -> Input
     ensures { NoMoreThan result buf.new }
 {
     let mut at = 0;
     while at < buf.len() {
-        let got = libc::read(STDIN_FILENO, &mut buf[at..]);
-        if got < 0 {
+        let Ok(n) = input.read(&mut buf[at..]) else {
             return Input::Unread;
-        }
-        let n = io::count(got, &buf[at..]);
+        };
         if n == 0 {
             return Input::Bytes(at);
         }
@@ -108,20 +106,20 @@ fn report(text: &mut [u8], table: &[u8]) -> usize
 }
 
 // Whether all of the report was written.
-fn print_report(table: &[u8]) -> bool {
+fn print_report<W: Write>(output: &mut W, table: &[u8]) -> bool {
     let mut text = text_buffer();
     let count = report(&mut text, table);
-    io::write_all(STDOUT_FILENO, &text[..count])
+    output.write_all(&text[..count]).is_ok()
 }
 
-fn main() {
+fn main(rt: HostRuntime) {
     let mut table = table_buffer();
-    let input = read_input(&mut table);
+    let input = read_input(&mut rt.stdin(), &mut table);
     let Input::Bytes(n) = input else {
-        io::write_all(STDERR_FILENO, b"circ: the table could not be read\n");
+        let _ = eprintln!(rt; "circ: the table could not be read");
         return;
     };
-    if !print_report(&table[..n]) {
-        io::write_all(STDERR_FILENO, b"circ: the report could not be written\n");
+    if !print_report(&mut rt.stdout(), &table[..n]) {
+        let _ = eprintln!(rt; "circ: the report could not be written");
     }
 }

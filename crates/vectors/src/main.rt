@@ -8,10 +8,10 @@
 ghost use Rattle.std.specs.Prelude.{◌≡◌, ◌*◌, ◌≤◌, length};
 
 use grammar::SLOTS;
-use libc::{STDIN_FILENO, STDOUT_FILENO};
 use lines::LINE_BYTES;
 use print::OTHER_LINES;
 use rules::{Answer, MOST_ENTRIES, Report};
+use std::io::{Read, Write};
 
 // Any table, good or bad, that a case has.
 const TABLE_BYTES: usize = 65535;
@@ -24,8 +24,8 @@ const TEXT_BYTES: usize = LINE_BYTES * (MOST_ENTRIES + OTHER_LINES);
 const SHORT_BYTES: usize = LINE_BYTES * OTHER_LINES;
 
 // Whether the input had enough for the whole buffer.
-fn fill(buf: &mut [u8]) -> bool {
-    io::read_full(STDIN_FILENO, buf) == buf.len()
+fn fill<R: Read>(input: &mut R, buf: &mut [u8]) -> bool {
+    input.read_exact(buf).is_ok()
 }
 
 // Each buffer is made by a function: a proof then goes by its length, and does not write out what it holds.
@@ -60,9 +60,9 @@ fn zero_kids() -> [u16; KIDS]
 }
 
 // The count is that of a text in the buffer, so the test never fails.
-fn print_first(text: &[u8], count: usize) {
+fn print_first<W: Write>(output: &mut W, text: &[u8], count: usize) {
     if count <= text.len() {
-        io::write_all(STDOUT_FILENO, &text[..count]);
+        let _ = output.write_all(&text[..count]);
     }
 }
 
@@ -79,14 +79,15 @@ fn root_lines(text: &mut [u8], at: usize, table: &[u8], report: Report) -> usize
 }
 
 // The first line, and those that follow the entries.
-fn print_short(table: &[u8], report: Report) {
+fn print_short<W: Write>(output: &mut W, table: &[u8], report: Report) {
     let mut text = [0u8; SHORT_BYTES];
     let at = lines::put_first(&mut text, 0, report);
     let end = root_lines(&mut text, at, table, report);
-    print_first(&text, end);
+    print_first(output, &text, end);
 }
 
-fn print_whole(
+fn print_whole<W: Write>(
+    output: &mut W,
     table: &[u8],
     report: Report,
     symbols: &[u16],
@@ -96,7 +97,7 @@ fn print_whole(
 ) {
     let mut text = text_buffer();
     let count = print::report_text(&mut text, table, report, symbols, graphs, productions, kids);
-    print_first(&text, count);
+    print_first(output, &text, count);
 }
 
 // The test with so much room.
@@ -122,9 +123,9 @@ fn tested(
     )
 }
 
-fn one_run(table: &[u8]) -> bool {
+fn one_run<R: Read, W: Write>(input: &mut R, output: &mut W, table: &[u8]) -> bool {
     let mut asked = [0u8; 7];
-    if !fill(&mut asked) {
+    if !fill(input, &mut asked) {
         return false;
     }
     let limit = numbers::four_at(&asked, 0);
@@ -153,32 +154,40 @@ fn one_run(table: &[u8]) -> bool {
         &productions,
         &kids,
     ) {
-        io::write_all(STDOUT_FILENO, b"the row of records differs\n");
+        let _ = output.write_all(b"the row of records differs\n");
     }
     if whole {
-        print_whole(table, report, &symbols, &graphs, &productions, &kids);
+        print_whole(
+            output,
+            table,
+            report,
+            &symbols,
+            &graphs,
+            &productions,
+            &kids,
+        );
     } else {
-        print_short(table, report);
+        print_short(output, table, report);
     }
     true
 }
 
-fn runs(table: &[u8]) -> bool {
+fn runs<R: Read, W: Write>(input: &mut R, output: &mut W, table: &[u8]) -> bool {
     let mut count = [0u8; 1];
-    if !fill(&mut count) {
+    if !fill(input, &mut count) {
         return false;
     }
     for _ in 0..numbers::byte_at(&count, 0) {
-        if !one_run(table) {
+        if !one_run(input, output, table) {
             return false;
         }
     }
     true
 }
 
-fn one_case() -> bool {
+fn one_case<R: Read, W: Write>(input: &mut R, output: &mut W) -> bool {
     let mut length = [0u8; 4];
-    if !fill(&mut length) {
+    if !fill(input, &mut length) {
         return false;
     }
     let n = numbers::four_at(&length, 0) as usize;
@@ -186,15 +195,17 @@ fn one_case() -> bool {
     if table.len() < n {
         return false;
     }
-    if !fill(&mut table[..n]) {
+    if !fill(input, &mut table[..n]) {
         return false;
     }
-    runs(&table[..n])
+    runs(input, output, &table[..n])
 }
 
-fn main() {
+fn main(rt: HostRuntime) {
+    let mut input = rt.stdin();
+    let mut output = rt.stdout();
     for _ in 0..100000usize {
-        if !one_case() {
+        if !one_case(&mut input, &mut output) {
             return;
         }
     }
