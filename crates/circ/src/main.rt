@@ -2,8 +2,10 @@
 #![tactic(auto)]
 
 ghost use Rattle.std.specs.Prelude.{◌≡◌, ◌*◌, ◌≤◌, length};
+ghost use Rattle.std.specs.Bool.{OnTrue};
+ghost use Rattle.std.specs.Io.KnownBytes.{Appends};
 ghost use Rattle.print.specs.Texts.{bytes_for};
-ghost use Rattle.circ.specs.Whole.{room, table_bytes, Reported, NoMoreThan};
+ghost use Rattle.circ.specs.Whole.{room, table_bytes, circ_text, Reported, NoMoreThan, Taken, Answered};
 
 use grammar::{
     EDGE_BYTES, HEADER_BYTES, MOST_EDGES, MOST_PRODUCTIONS, MOST_SYMBOLS, PRODUCTION_BYTES, SLOTS,
@@ -39,7 +41,8 @@ enum Input {
 
 // Reads until the buffer is full or the input ends. An interrupted read counts as one that failed: no signal is caught here.
 fn read_input<R: Read>(input: &mut R, buf: &mut [u8]) -> Input
-    ensures { NoMoreThan result buf.new }
+    ensures most { NoMoreThan result buf.new }
+    ensures bytes { Taken (R.remaining input.old) (R.remaining input.new) result buf.new }
 {
     let mut at = 0;
     while at < buf.len() {
@@ -106,20 +109,45 @@ fn report(text: &mut [u8], table: &[u8]) -> usize
 }
 
 // Whether all of the report was written.
-fn print_report<W: Write>(output: &mut W, table: &[u8]) -> bool {
+fn print_report<W: Write>(output: &mut W, table: &[u8]) -> bool
+    ensures { OnTrue result (Appends (W.contents output.old) (W.contents output.new) (circ_text table.now)) }
+{
     let mut text = text_buffer();
     let count = report(&mut text, table);
     output.write_all(&text[..count]).is_ok()
 }
 
-fn main(rt: HostRuntime) {
+// How a run ends.
+#[derive(Clone, Copy)]
+pub enum Ended {
+    Printed,
+    Unread,
+    Unwritten,
+}
+
+// Reads a table and prints the report of its test.
+pub fn run<R: Read, W: Write>(input: &mut R, output: &mut W) -> Ended
+    ensures { Answered (R.remaining input.old) (W.contents output.old) (W.contents output.new) result }
+{
     let mut table = table_buffer();
-    let input = read_input(&mut rt.stdin(), &mut table);
-    let Input::Bytes(n) = input else {
-        let _ = eprintln!(rt; "circ: the table could not be read");
-        return;
+    let Input::Bytes(n) = read_input(input, &mut table) else {
+        return Ended::Unread;
     };
-    if !print_report(&mut rt.stdout(), &table[..n]) {
-        let _ = eprintln!(rt; "circ: the report could not be written");
+    if print_report(output, &table[..n]) {
+        Ended::Printed
+    } else {
+        Ended::Unwritten
+    }
+}
+
+fn main(rt: HostRuntime) {
+    match run(&mut rt.stdin(), &mut rt.stdout()) {
+        Ended::Printed => {}
+        Ended::Unread => {
+            let _ = eprintln!(rt; "circ: the table could not be read");
+        }
+        Ended::Unwritten => {
+            let _ = eprintln!(rt; "circ: the report could not be written");
+        }
     }
 }
