@@ -1,4 +1,4 @@
-//! Links the archive that `rt staticlib kusillaqe` writes.
+//! Links the archive that `crates/kusillaqe_c/archive` makes.
 
 use std::path::PathBuf;
 
@@ -10,7 +10,7 @@ fn main() {
     println!("cargo::rerun-if-changed={}", archive.display());
     if !archive.is_file() {
         let (archive, repository) = (archive.display(), repository.display());
-        println!("cargo::error={archive} is not there: `rt staticlib kusillaqe`, called in {repository}, proves and makes it");
+        println!("cargo::error={archive} is not there: `{repository}/crates/kusillaqe_c/archive` proves and makes it");
         return;
     }
     println!("cargo::rustc-link-search=native={}", folder.display());
