@@ -9,7 +9,7 @@ ghost use Rattle.graph.specs.Rows.{own, placed, has_circle, root_graph};
 ghost use Rattle.graph.specs.Parts.{closed_first};
 ghost use Rattle.graph.specs.Search.{path_of, circle_of};
 ghost use Rattle.graph.specs.Trails.{trail_of, circle_trail};
-ghost use Rattle.passes.specs.Slices.{at_entry, at_exit};
+ghost use Rattle.passes.specs.Slices.{slices};
 ghost use Rattle.flats.specs.Flat.{flat_check, flat_trail};
 ghost use Rattle.kusillaqe.specs.Flat.{TestedFlat};
 
@@ -36,9 +36,9 @@ pub extern "C" fn kusillaqe_test(
     report: &mut [u32; REPORT],
 )
     ensures { TestedFlat table.now limit
-        (at_entry symbols graphs productions kids)
+        (slices symbols.old graphs.old productions.old kids.old)
         report.new
-        (at_exit symbols graphs productions kids) }
+        (slices symbols.new graphs.new productions.new kids.new) }
 {
     kusillaqe::kusillaqe_test(table, limit, symbols, graphs, productions, kids, report);
 }
