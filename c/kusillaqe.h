@@ -1,4 +1,4 @@
-/* The proved library, for C: link target/staticlib/libkusillaqe.a, which `rt staticlib kusillaqe` proves and makes, for x86-64.
+/* The proved library, for C: link target/staticlib/libkusillaqe.a, which `crates/kusillaqe_c/archive` proves and makes, for x86-64.
  *
  * A slice passes as its address and its length. No address is NULL, also where the length is 0; each is aligned as its type asks; what
  * is written does not overlap anything else that is passed. Nothing else is asked: each function answers for every input. What is passed

@@ -1,15 +1,13 @@
 -- Of a table that is not refused, what the code finds is the circle of the root's compound graph. Assumes nothing.
-use mathlib.Core.Path.{◌≡◌, sym, ap, ap₂, ◌∙◌}
+use mathlib.Core.Path.{◌≡◌, sym, ap, ◌∙◌}
 use mathlib.Core.List.{List, map}
-use Prim.Native.Nat.{ℕ, suc, ◌*◌, ◌≤◌, min}
+use Prim.Native.Nat.{ℕ, suc, ◌*◌}
 use native.Mathlib.Omega.{arith}
-use lib.ListN.{length, get_or, take, replicate, length-map, length-take}
-use Rattle.grammar.specs.Grammar.{Grammar, production, rights, edges_of}
-use Rattle.grammar.specs.Table.{edges_in, grammar_of}
+use lib.ListN.{length, get_or, take, length-map, length-take}
+use Rattle.grammar.specs.Grammar.{Grammar, production, edges_of}
+use Rattle.grammar.specs.Table.{grammar_of}
 use Rattle.grammar.specs.declared.Checked.TheVariants.{Good}
 use Rattle.grammar.specs.Refusal.{refusal}
-use Rattle.grammar.specs.Reading.{run_of}
-use Rattle.grammar.proofs.Lookups.{slots_seven}
 use Rattle.graph.specs.Rows.{compound}
 use Rattle.graph.specs.Search.{circle_of}
 use Rattle.graph.specs.Marks.{masks_of}

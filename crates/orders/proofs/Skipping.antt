@@ -11,7 +11,7 @@ use Rattle.numbers.specs.Lists.{keep}
 use Rattle.rules.specs.declared.Answer.TheVariants.{OutOfSteps}
 use Rattle.rules.specs.Passes.{System}
 use Rattle.rules.specs.Fresh.{Since, began, stale, unstale}
-use Rattle.orders.specs.Modes.{Judged, round, needless, fresh, Mode, Later, Settled, Turned, Shown, circle, settled, added, Lawful}
+use Rattle.orders.specs.Modes.{Judged, round, needless, fresh, Mode, Later, Settled, Turned, Shown, circle, added, Lawful}
 use Rattle.orders.specs.Plans.{Plan, end, next, End, tried, run, tries_plan}
 use Rattle.orders.specs.Orders.{Order, over, turn, order_plan, all_of, fresh_of, Combos, Careful}
 use Rattle.orders.proofs.Points.{size, Rest, longer, Goes, passed, stored}

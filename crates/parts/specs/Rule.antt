@@ -4,7 +4,7 @@ use Rattle.std.specs.Prelude.{Bool, true, false, cond, List, [], ◌∷◌, ℕ,
 use Rattle.numbers.specs.Lists.{both, every, keep, up_from}
 use Rattle.grammar.specs.declared.Production.{Production}
 use Rattle.grammar.specs.Grammar.{Grammar, production, rights}
-use Rattle.grammar.specs.Table.{at_edges, grammar_of}
+use Rattle.grammar.specs.Table.{at_edges}
 use Rattle.parts.specs.Sets.{Symbols, none, has, add_if, same_sets}
 
 -- ---- walks over the productions

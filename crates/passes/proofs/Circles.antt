@@ -1,7 +1,7 @@
 -- The circle that is said when the passes have ended. Assumes nothing.
 use mathlib.Core.Path.{◌≡◌, refl, sym, ap, ◌∙◌}
-use mathlib.Core.List.{List, [], ◌∷◌, ◌++◌, map}
-use Prim.Native.Nat.{ℕ, ◌≤◌, ◌<◌}
+use mathlib.Core.List.{List, [], ◌∷◌, map}
+use Prim.Native.Nat.{ℕ, ◌<◌}
 use native.Mathlib.Decide.{dec_lt}
 use native.Mathlib.Omega.{arith}
 use lib.ListN.{length, get_or, take, drop, length-map, length-take, get_or-eq_default}
@@ -23,7 +23,6 @@ use Rattle.rules.specs.declared.Entry.{Entry}
 use Rattle.rules.specs.declared.Report.{Report}
 use Rattle.rules.specs.Passes.{Outcome, no_entry, entry, graphs, counting}
 use Rattle.rules.specs.Test.{report_with, circle_said, saying}
-use Rattle.rules.specs.contracts.Answer.{the_type}
 use Rattle.passes.specs.Slices.{Slices, Tells}
 use Rattle.passes.specs.Follow.{circle_over}
 

@@ -9,7 +9,7 @@ use Rattle.steps.specs.declared.Run.{Run}
 use Rattle.steps.specs.declared.Task.{Task}
 use Rattle.rules.specs.Passes.{State, Ran, going, entry, try}
 use Rattle.rules.specs.declared.Entry.{Entry}
-use Rattle.passes.specs.Slices.{Slices, entry_at, entries_to}
+use Rattle.passes.specs.Slices.{Slices, entry_at}
 use Rattle.passes.specs.Follow.{Kept, Follows, system_by, over}
 use Rattle.passes.proofs.Entries.{entry_at_lem}
 use Rattle.passes.proofs.Following.{follows_nothing, follows_still, follows_then, follows_same, tries_append, tries_one, tries_none}

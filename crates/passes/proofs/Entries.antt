@@ -13,7 +13,7 @@ use lib.Seq.{sets, sets-eq, length-sets, length-take-le, take-suc, take-add, dro
 use Rattle.numbers.specs.Lists.{both, some_below, written}
 use Rattle.rules.specs.declared.Entry.{Entry}
 use Rattle.rules.specs.Passes.{no_entry, entry, known}
-use Rattle.passes.specs.Slices.{Slices, slices, all_kids, entry_at, entries_to}
+use Rattle.passes.specs.Slices.{Slices, all_kids, entry_at, entries_to}
 use Rattle.steps.specs.Slices.{put}
 use Rattle.steps.specs.Step.{seen_in}
 use Rattle.passes.specs.Follow.{Beyond}

@@ -19,7 +19,7 @@ use Rattle.steps.specs.declared.Verdict.{Verdict}
 use Rattle.steps.specs.declared.Verdict.TheVariants.{Steps, Circle, Known, Full, New}
 use Rattle.graph.specs.Rows.{has_circle, root_graph}
 use Rattle.compounds.specs.Combination.{own_in, picked_graphs, closed_over, closed_in}
-use Rattle.rules.specs.Passes.{State, Ran, going, stopped, and_then, numbered, no_root, stop_if, go_on_if, counted, stored, graphs, try}
+use Rattle.rules.specs.Passes.{State, Ran, going, stopped, and_then, numbered, no_root, stop_if, go_on_if, counted, stored, try}
 use Rattle.rules.proofs.Steps.{by_tests}
 use Rattle.passes.specs.Slices.{Slices}
 use Rattle.steps.specs.Slices.{put}

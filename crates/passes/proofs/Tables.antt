@@ -1,30 +1,21 @@
 -- What a table that is not refused gives to a turn. Assumes nothing.
-use mathlib.Core.Path.{◌≡◌, refl, sym, ap, ◌∙◌, subst}
+use mathlib.Core.Path.{◌≡◌, refl, ap, ◌∙◌, subst}
 use mathlib.Core.List.{List}
-use Prim.Native.Nat.{ℕ, suc, ◌*◌, ◌≤◌, ◌<◌}
-use native.Mathlib.Decide.{dec_le}
+use Prim.Native.Nat.{ℕ, ◌≤◌}
 use native.Mathlib.Nat.{le_refl}
 use native.Mathlib.Omega.{arith}
-use lib.Dec.{eqb}
-use lib.ListN.{length, take, replicate, get_or-eq_default}
+use lib.ListN.{replicate}
 use lib.Seq.{length-take-le}
-use borrow.Author.Tests.{eqb-true}
-use Rattle.numbers.proofs.Members.{member_at, keep_mem}
 use Rattle.grammar.specs.declared.Edge.{Edge}
-use Rattle.grammar.specs.declared.Production.{Production}
-use Rattle.grammar.specs.Grammar.{Grammar, no_symbol, no_production, symbol, production, symbol_at, edges_of}
+use Rattle.grammar.specs.Grammar.{Grammar, production, edges_of}
 use Rattle.grammar.specs.Table.{P, edges_in, grammar_of}
-use Rattle.grammar.specs.Rules.{NodeThere}
 use Rattle.grammar.specs.declared.Checked.TheVariants.{Good}
 use Rattle.grammar.specs.Refusal.{refusal}
 use Rattle.grammar.specs.Reading.{run_of}
 use Rattle.grammar.specs.Valid.{Valid}
-use Rattle.grammar.proofs.Lookups.{productions_many}
 use Rattle.grammar.proofs.Valid.{valid}
-use Rattle.graph.specs.Rows.{own, placed_from, compound, closure, has_circle, root_graph}
-use Rattle.graph.specs.Compound.{Within, EdgesWithin}
+use Rattle.graph.specs.Rows.{own, closure, has_circle, root_graph}
 use Rattle.graph.proofs.Tables.{few_rights, rows_made}
-use Rattle.steps.specs.declared.Course.TheVariants.{Going}
 use Rattle.steps.specs.declared.Run.{Run}
 use Rattle.steps.specs.declared.Task.{Task}
 use Rattle.rules.specs.Passes.{turn}
@@ -32,7 +23,6 @@ use Rattle.rules.specs.Test.{system_of, system_in}
 use Rattle.grammar.proofs.Lookups.{slots_seven}
 use Rattle.steps.specs.Step.{goes_on}
 use Rattle.compounds.specs.Combination.{closed_over}
-use Rattle.turns.specs.Combos.{combos_of}
 use Rattle.passes.specs.Slices.{Slices}
 use Rattle.passes.specs.Follow.{Follows, Roomy, InTurn, system_by, over, task_of, combos_in}
 use Rattle.passes.proofs.Systems.{Agrees, turn_follows}

@@ -1,8 +1,6 @@
 -- The line of a circle by itself: where there is room for the longest, and where not. Assumes nothing.
-use mathlib.Core.Path.{◌≡◌, refl, ◌∙◌}
 use mathlib.Core.List.{List}
 use Prim.Native.Nat.{ℕ, ◌+◌, ◌≤◌, ◌<◌}
-use lib.Dec.{leb}
 use lib.ListN.{length}
 use borrow.Author.Tests.{le-leb, lt-leb}
 use Rattle.graph.specs.declared.Trail.{Trail}

@@ -1,6 +1,6 @@
 -- What follows the first line, by the answer. Assumes nothing.
 use mathlib.Core.Path.{◌≡◌, refl}
-use mathlib.Core.List.{List, [], ◌∷◌}
+use mathlib.Core.List.{List}
 use Prim.Native.Nat.{ℕ}
 use Rattle.grammar.specs.declared.Broken.{Broken}
 use Rattle.rules.specs.declared.Answer.{Answer}

@@ -9,8 +9,7 @@ use lib.ListN.{length, length-append, length-map, length-replicate, length-take}
 use borrow.Author.Tests.{leb-false}
 use Rattle.grammar.specs.declared.Checked.{Checked}
 use Rattle.grammar.specs.declared.Checked.TheVariants.{Good, Refused as Bad}
-use Rattle.grammar.specs.Grammar.{production, rights}
-use Rattle.grammar.specs.Table.{P, width_of, grammar_of}
+use Rattle.grammar.specs.Table.{width_of, grammar_of}
 use Rattle.grammar.specs.Refusal.{refusal}
 use Rattle.grammar.proofs.Lookups.{slots_seven}
 use Rattle.parts.specs.Rule.{taking}

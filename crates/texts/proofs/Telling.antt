@@ -20,8 +20,8 @@ use Rattle.rules.specs.declared.Answer.TheVariants.{Noncircular, Circular, Refus
 use Rattle.rules.specs.declared.Entry.{Entry}
 use Rattle.rules.specs.Passes.{Outcome, outcome, entry, seven, no_root, empty}
 use Rattle.rules.specs.Test.{circle_said}
-use Rattle.texts.specs.Lines.{ascii, decimal, newline, tagged, broken_numbers, answered, counts, first_line, spaced, kids_text, entry_line, root_line, link_word, link_text, links_text, circle_line, entry_lines, root_lines, rest, printed}
-use Rattle.texts.specs.Telling.{OthersZero, RootZero, BeyondZero, CircleZero, UnprintedZero, PrintedTells}
+use Rattle.texts.specs.Lines.{ascii, newline, tagged, broken_numbers, answered, counts, first_line, spaced, kids_text, entry_line, root_line, link_word, link_text, links_text, circle_line, entry_lines, root_lines, rest, printed}
+use Rattle.texts.specs.Telling.{OthersZero, RootZero, BeyondZero, CircleZero, PrintedTells}
 use Rattle.texts.proofs.Numbers.{EndsNumber, tagged_told, digit_first}
 
 -- ---- the first line

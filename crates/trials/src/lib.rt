@@ -1,3 +1,2 @@
 // No code: what is tried stands in specs/ and proofs/.
 #![tactic(auto)]
-

@@ -1,3 +1,2 @@
 // No code: what is shown of the ways in stands in specs/ and proofs/.
 #![tactic(auto)]
-

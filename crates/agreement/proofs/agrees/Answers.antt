@@ -1,5 +1,4 @@
 -- `agreement::agrees` meets its promise. Assumes nothing.
-use borrow.Author.Rules.{rules}
 use borrow.Author.Tests.{not-true, not-false}
 use Rattle.agreement.proofs.Agreeing.{differs, agrees}
 use Rattle.agreement.proofs.agrees.Goals as goal

@@ -9,7 +9,7 @@ use lib.ListN.{length, take}
 use borrow.Author.Count.{below_more}
 use Rattle.rules.specs.declared.Entry.{Entry}
 use Rattle.rules.specs.Passes.{entry}
-use Rattle.passes.specs.Slices.{Slices, slices}
+use Rattle.passes.specs.Slices.{Slices}
 use Rattle.agreement.specs.Agreement.{AsTold, place_of}
 use Rattle.agreement.proofs.Exactly.{always, never, said_no, said_yes}
 use Rattle.agreement.proofs.alike.Invariants.{AlikeAt}

@@ -3,7 +3,6 @@ use mathlib.Core.Path.{sym, ap, ◌∙◌}
 use Rattle.rules.specs.declared.Report.{Report}
 use Rattle.agreement.specs.Agreement.{case_of, held_in, record_in}
 use Rattle.agreement.proofs.Exactly.{never, said_no, said_yes, same_report}
-use borrow.Author.Rules.{rules}
 use Rattle.agreement.proofs.same_report.Goals as goal
 
 pub returns-then-case_of : goal.returns-then-case_of

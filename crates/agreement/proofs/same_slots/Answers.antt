@@ -1,9 +1,9 @@
 -- `agreement::same_slots` meets its promise. Assumes nothing.
 use mathlib.Core.Path.{◌≡◌, refl, ap}
 use mathlib.Core.List.{List}
-use Prim.Native.Nat.{ℕ, ◌-◌, ◌≤◌}
+use Prim.Native.Nat.{ℕ}
 use native.Mathlib.Omega.{arith}
-use lib.ListN.{length, get_or, take}
+use lib.ListN.{get_or}
 use borrow.Author.Rules.{rules}
 use Rattle.agreement.proofs.Exactly.{always, never, longer, whole}
 use Rattle.agreement.proofs.same_slots.Goals as goal

@@ -1,11 +1,7 @@
 -- `agreement::same_slots` meets its promise. Assumes nothing.
-use mathlib.Core.Path.{◌≡◌, refl, ap}
-use mathlib.Core.List.{List}
-use Prim.Native.Nat.{ℕ, ◌-◌, ◌≤◌}
-use native.Mathlib.Omega.{arith}
-use lib.ListN.{length, get_or, take}
-use borrow.Author.Rules.{rules}
-use Rattle.agreement.proofs.Exactly.{always, never, longer, whole}
+use mathlib.Core.Path.{◌≡◌}
+use Prim.Native.Nat.{◌-◌, ◌≤◌}
+use lib.ListN.{length, take}
 use Rattle.agreement.proofs.same_slots.Given as goal
 
 abbrev pub invariant-loop-k : goal.invariant-loop-k

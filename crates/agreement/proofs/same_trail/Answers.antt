@@ -1,6 +1,5 @@
 -- `agreement::same_trail` meets its promise. Assumes nothing.
 use mathlib.Core.Path.{ap}
-use borrow.Author.Rules.{rules}
 use Rattle.graph.specs.declared.Trail.{Trail}
 use Rattle.agreement.proofs.Exactly.{never, said_no, said_yes, same_trail}
 use Rattle.agreement.proofs.same_trail.Goals as goal

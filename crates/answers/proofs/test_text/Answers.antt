@@ -1,5 +1,4 @@
 -- The test's promise and the text's, put together. Assumes nothing.
-use borrow.Author.Rules.{rules}
 use Rattle.passes.specs.Slices.{slices}
 use Rattle.answers.proofs.Stored.{same_room, test_printed}
 use Rattle.answers.proofs.test_text.Goals as goal

@@ -1,13 +1,9 @@
 -- `candidates::next_candidate` meets its contract. The invariant: what is found from here on is what is to be found. Assumes nothing.
-use mathlib.Core.Path.{◌≡◌, sym, ap, ◌∙◌}
-use Prim.Native.Nat.{ℕ, ◌-◌}
-use borrow.Author.Rules.{rules}
-use borrow.Author.Tests.{eq-eqb, ne_eqb}
-use native.Mathlib.Omega.{arith}
+use mathlib.Core.Path.{◌≡◌}
+use Prim.Native.Nat.{◌-◌}
 use lib.Dec.{eqb}
 use lib.ListN.{get_or}
 use Rattle.candidates.specs.Next.{first_up, next_of}
-use Rattle.candidates.proofs.Seeking.{up_hit, up_other, up_none}
 use Rattle.candidates.proofs.next_candidate.Given as goal
 
 abbrev pub invariant-loop-e : goal.invariant-loop-e

@@ -1,8 +1,6 @@
 -- `checks::check` meets its contract. Each return cites the checks that led there. Assumes nothing.
 use mathlib.Core.Path.{sym, ◌∙◌}
-use borrow.Author.Tests.{not-true, not-false}
 use Rattle.grammar.proofs.Sequence.{refusal_one, refusal_two, refusal_three, refusal_records, and_good, and_bad}
-use borrow.Author.Rules.{rules}
 use Rattle.checks.proofs.check.Goals as goal
 
 pub returns-then-table-lt-HEADER_BYTES : goal.returns-then-table-lt-HEADER_BYTES

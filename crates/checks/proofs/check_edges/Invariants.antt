@@ -1,17 +1,11 @@
 -- `checks::check_edges` meets its contract. What the edges from i on say, after the edge before them, is what all of them say. Assumes nothing.
-use mathlib.Core.Path.{◌≡◌, sym, ap, subst, ◌∙◌}
-use mathlib.Core.List.{[], ◌∷◌}
-use Prim.Native.Nat.{◌+◌, ◌≤◌, ◌<◌, ◌-◌}
-use native.Mathlib.Omega.{arith}
-use borrow.Author.Rules.{rules}
-use Rattle.grammar.specs.declared.Read.{Read}
+use mathlib.Core.Path.{◌≡◌}
+use Prim.Native.Nat.{◌≤◌, ◌<◌, ◌-◌}
 use Rattle.grammar.specs.Table.{E, grammar_of}
 use Rattle.grammar.specs.Rules.{edge}
 use Rattle.grammar.specs.Refusal.{edge_rule}
-use Rattle.grammar.specs.Steps.{handed_up, edges_check}
-use Rattle.grammar.proofs.First.{left, first_begins, first_ends}
-use Rattle.grammar.proofs.Handing.{edge_agrees, was_read, loop_stops, loop_goes, reads_edge}
-use Rattle.grammar.specs.contracts.Read.{the_type}
+use Rattle.grammar.specs.Steps.{edges_check}
+use Rattle.grammar.proofs.First.{left}
 use Rattle.checks.proofs.check_edges.Given as goal
 
 abbrev pub invariant-loop-i : goal.invariant-loop-i

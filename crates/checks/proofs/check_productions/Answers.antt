@@ -1,16 +1,13 @@
 -- `checks::check_productions` meets its contract. What the productions from i on say is what all of them say. Assumes nothing.
-use mathlib.Core.Path.{◌≡◌, sym, ap, subst, ◌∙◌}
-use mathlib.Core.List.{[], ◌∷◌}
-use Prim.Native.Nat.{◌≤◌, ◌-◌}
+use mathlib.Core.Path.{sym, ap, ◌∙◌}
 use native.Mathlib.Omega.{arith}
 use borrow.Author.Rules.{rules}
 use Rattle.grammar.specs.Grammar.{production}
 use Rattle.grammar.specs.Table.{N, P, grammar_of}
 use Rattle.grammar.specs.Refusal.{production_ok, production_rule}
-use Rattle.grammar.specs.Steps.{handed_up, productions_check}
-use Rattle.grammar.proofs.First.{left, first_begins, first_ends}
+use Rattle.grammar.specs.Steps.{handed_up}
+use Rattle.grammar.proofs.First.{first_begins, first_ends}
 use Rattle.grammar.proofs.Handing.{whole, agrees_or, loop_stops, loop_goes}
-use Rattle.grammar.specs.contracts.Read.{the_type}
 use Rattle.checks.proofs.check_productions.Goals as goal
 
 pub loop-i-init : goal.loop-i-init

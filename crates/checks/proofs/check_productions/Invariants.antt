@@ -1,16 +1,10 @@
 -- `checks::check_productions` meets its contract. What the productions from i on say is what all of them say. Assumes nothing.
-use mathlib.Core.Path.{◌≡◌, sym, ap, subst, ◌∙◌}
-use mathlib.Core.List.{[], ◌∷◌}
+use mathlib.Core.Path.{◌≡◌}
 use Prim.Native.Nat.{◌≤◌, ◌-◌}
-use native.Mathlib.Omega.{arith}
-use borrow.Author.Rules.{rules}
-use Rattle.grammar.specs.Grammar.{production}
-use Rattle.grammar.specs.Table.{N, P, grammar_of}
-use Rattle.grammar.specs.Refusal.{production_ok, production_rule}
-use Rattle.grammar.specs.Steps.{handed_up, productions_check}
-use Rattle.grammar.proofs.First.{left, first_begins, first_ends}
-use Rattle.grammar.proofs.Handing.{whole, agrees_or, loop_stops, loop_goes}
-use Rattle.grammar.specs.contracts.Read.{the_type}
+use Rattle.grammar.specs.Table.{P}
+use Rattle.grammar.specs.Refusal.{production_rule}
+use Rattle.grammar.specs.Steps.{productions_check}
+use Rattle.grammar.proofs.First.{left}
 use Rattle.checks.proofs.check_productions.Given as goal
 
 abbrev pub invariant-loop-i : goal.invariant-loop-i

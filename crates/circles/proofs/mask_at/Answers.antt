@@ -1,7 +1,6 @@
 -- `circles::mask_at` meets its contract. Assumes nothing.
 use mathlib.Core.Path.{ap, ◌∙◌}
 use Prim.Native.Nat.{ℕ}
-use borrow.Author.Rules.{rules}
 use Rattle.grammar.specs.declared.Symbol.{Symbol}
 use Rattle.grammar.specs.Grammar.{symbol}
 use Rattle.grammar.specs.Table.{grammar_of}

@@ -1,16 +1,14 @@
 -- `circles::masks_of` meets its contract. The invariant: the masks of the occurrences passed stand in their places. Assumes nothing.
 use mathlib.Core.Path.{◌≡◌, refl, sym, ap, ◌∙◌}
 use mathlib.Core.List.{List, [], ◌∷◌, ◌++◌, map}
-use Prim.Native.Nat.{ℕ, zero, suc, ◌+◌, ◌-◌, ◌≤◌, min}
-use native.Mathlib.Numerals.{add-one}
+use Prim.Native.Nat.{ℕ, suc, ◌+◌, min}
 use native.Mathlib.Omega.{arith}
 use borrow.Author.Rules.{rules}
-use lib.ListN.{length}
 use Rattle.numbers.specs.Lists.{up_from}
 use Rattle.numbers.proofs.Ranges.{length_up_from}
 use Rattle.numbers.proofs.Keeping.{up_more}
 use Rattle.grammar.specs.declared.Production.{Production}
-use Rattle.grammar.specs.Grammar.{Grammar, symbol, symbol_at}
+use Rattle.grammar.specs.Grammar.{Grammar}
 use Rattle.grammar.specs.Table.{grammar_of}
 use Rattle.graph.specs.Trails.{filled_up}
 use Rattle.graph.proofs.Trails.{none_filled, filled_map_more}

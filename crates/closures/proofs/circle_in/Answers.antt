@@ -1,10 +1,9 @@
 -- `closures::circle_in` meets its contract. The loop's invariant: bit 0 of `seen` says whether a node below i has an edge to itself. Assumes nothing.
 use mathlib.Core.Path.{◌≡◌, refl, ap, ◌∙◌}
-use Prim.Native.Nat.{ℕ, ◌*◌, ◌-◌, ◌%◌, ◌≤◌}
+use Prim.Native.Nat.{ℕ, ◌*◌}
 use native.Mathlib.Omega.{arith}
 use lib.Bits.{and_mask}
 use lib.Dec.{eqb}
-use borrow.Author.Rules.{rules}
 use Rattle.graph.specs.Rows.{circle_to}
 use Rattle.graph.proofs.Turns.{circle_more, circle_clipped}
 use Rattle.closures.proofs.circle_in.Goals as goal

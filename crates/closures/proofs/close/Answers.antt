@@ -1,5 +1,4 @@
 -- `closures::close` meets its contract. Assumes nothing.
-use borrow.Author.Rules.{rules}
 use Rattle.closures.proofs.close.Goals as goal
 
 pub returns : goal.returns

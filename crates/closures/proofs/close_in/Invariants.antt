@@ -1,16 +1,9 @@
 -- `closures::close_in` meets its contract. The loop's invariant: the steps through the nodes below k are made. Assumes nothing.
-use mathlib.Core.Path.{◌≡◌, sym, ap, ◌∙◌}
+use mathlib.Core.Path.{◌≡◌}
 use mathlib.Core.List.{◌++◌}
-use mathlib.Core.Logic.{⊎_elim}
-use Prim.Native.Nat.{◌+◌, ◌*◌, ◌/◌, ◌^◌, ◌-◌, ◌≤◌}
-use native.Mathlib.Omega.{arith}
-use lib.Bits.{and_mask}
-use lib.ListN.{length, get_or, take, drop, take-append-drop}
-use lib.Seq.{length-take-le}
-use borrow.Author.Rules.{rules}
-use Rattle.numbers.specs.Number.{bit}
-use Rattle.graph.specs.Rows.{through, steps_to}
-use Rattle.graph.proofs.Turns.{length_map_first, targets_none, step_made, step_from_none, step_to_none, closed_clipped}
+use Prim.Native.Nat.{◌-◌, ◌≤◌}
+use lib.ListN.{length, take, drop}
+use Rattle.graph.specs.Rows.{steps_to}
 use Rattle.closures.proofs.close_in.Given as goal
 
 abbrev pub invariant-loop-k : goal.invariant-loop-k

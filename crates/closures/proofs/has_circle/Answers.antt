@@ -1,5 +1,4 @@
 -- `closures::has_circle` meets its contract. Assumes nothing.
-use borrow.Author.Rules.{rules}
 use Rattle.closures.proofs.has_circle.Goals as goal
 
 pub returns : goal.returns

@@ -3,7 +3,6 @@ use mathlib.Core.Path.{◌≡◌}
 use Prim.Native.Nat.{◌/◌, ◌^◌}
 use native.Mathlib.Omega.{arith}
 use lib.Bits.{and_mask}
-use borrow.Author.Rules.{rules}
 use Rattle.numbers.specs.Number.{bit}
 use Rattle.graph.specs.Rows.{through}
 use Rattle.closures.proofs.joined.Goals as goal

@@ -1,12 +1,7 @@
 -- `closures::root_graph` meets its contract. The loop's invariant: the pairs that begin in the first a attributes are there. Assumes nothing.
-use mathlib.Core.Path.{◌≡◌, refl}
-use Prim.Native.Nat.{◌*◌, ◌-◌, ◌≤◌}
-use native.Mathlib.Omega.{arith}
-use lib.ListN.{get_or}
-use borrow.Author.Rules.{rules}
-use Rattle.numbers.proofs.Bits.{block_fits}
+use mathlib.Core.Path.{◌≡◌}
+use Prim.Native.Nat.{◌-◌, ◌≤◌}
 use Rattle.graph.specs.Rows.{root_to}
-use Rattle.graph.proofs.Turns.{root_more}
 use Rattle.closures.proofs.root_graph.Given as goal
 
 abbrev pub invariant-loop-a : goal.invariant-loop-a

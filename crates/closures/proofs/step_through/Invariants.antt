@@ -1,12 +1,9 @@
 -- `closures::step_through` meets its contract. The loop's invariant: the first i rows are changed. Assumes nothing.
-use mathlib.Core.Path.{◌≡◌, refl, ap, ◌∙◌}
-use Prim.Native.Nat.{◌+◌, ◌-◌, ◌≤◌}
-use native.Mathlib.Omega.{arith}
+use mathlib.Core.Path.{◌≡◌}
+use Prim.Native.Nat.{◌-◌, ◌≤◌}
 use lib.ListN.{length}
-use borrow.Author.Rules.{rules}
 use Rattle.graph.specs.Rows.{through}
 use Rattle.graph.specs.Parts.{map_first}
-use Rattle.graph.proofs.Turns.{map_more, length_map_first}
 use Rattle.closures.proofs.step_through.Given as goal
 
 abbrev pub invariant-loop-i : goal.invariant-loop-i

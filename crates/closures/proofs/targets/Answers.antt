@@ -1,8 +1,6 @@
 -- `closures::targets` meets its contract. The loop's invariant: the targets of the first i rows are there. Assumes nothing.
 use mathlib.Core.Path.{◌≡◌, refl}
-use Prim.Native.Nat.{◌-◌, ◌≤◌}
 use native.Mathlib.Omega.{arith}
-use borrow.Author.Rules.{rules}
 use Rattle.graph.specs.Parts.{targets_to}
 use Rattle.graph.proofs.Turns.{targets_more}
 use Rattle.closures.proofs.targets.Goals as goal

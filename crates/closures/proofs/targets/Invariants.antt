@@ -1,10 +1,7 @@
 -- `closures::targets` meets its contract. The loop's invariant: the targets of the first i rows are there. Assumes nothing.
-use mathlib.Core.Path.{◌≡◌, refl}
+use mathlib.Core.Path.{◌≡◌}
 use Prim.Native.Nat.{◌-◌, ◌≤◌}
-use native.Mathlib.Omega.{arith}
-use borrow.Author.Rules.{rules}
 use Rattle.graph.specs.Parts.{targets_to}
-use Rattle.graph.proofs.Turns.{targets_more}
 use Rattle.closures.proofs.targets.Given as goal
 
 abbrev pub invariant-loop-i : goal.invariant-loop-i

@@ -1,7 +1,6 @@
 -- `kusillaqe::kusillaqe_check` meets its contract. Assumes nothing.
 use mathlib.Core.Path.{ap, ◌∙◌}
 use Rattle.flats.specs.Flat.{flat_check}
-use borrow.Author.Rules.{rules}
 use Rattle.kusillaqe.proofs.kusillaqe_check.Goals as goal
 
 pub returns : goal.returns

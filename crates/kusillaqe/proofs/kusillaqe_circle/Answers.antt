@@ -1,7 +1,6 @@
 -- `kusillaqe::kusillaqe_circle` meets its contract. Assumes nothing.
 use mathlib.Core.Path.{ap, ◌∙◌}
 use Rattle.flats.specs.Flat.{flat_trail}
-use borrow.Author.Rules.{rules}
 use Rattle.kusillaqe.proofs.kusillaqe_circle.Goals as goal
 
 pub returns : goal.returns

@@ -2,9 +2,7 @@
 use mathlib.Core.Path.{sym, ap, ◌∙◌}
 use Prim.Native.Nat.{ℕ}
 use native.Mathlib.Omega.{arith}
-use borrow.Author.Rules.{rules}
 use Rattle.circles.specs.Ring.{ring_in}
-use Rattle.rules.specs.declared.Answer.{Answer}
 use Rattle.passes.specs.Follow.{circle_over}
 use Rattle.passes.proofs.Circles.{none_said, one_said}
 use Rattle.passes.proofs.circle_said.Goals as goal

@@ -4,21 +4,18 @@ use mathlib.Core.Path.{◌≡◌, refl, sym, ap, ◌∙◌, subst}
 use mathlib.Core.Bool.{Bool, true, false}
 use mathlib.Core.List.{List, ◌∷◌}
 use Prim.Native.Nat.{ℕ, ◌-◌, ◌≤◌}
-use borrow.Author.Rules.{rules}
-use borrow.Author.Tests.{not-true, not-false}
 use native.Mathlib.Omega.{arith}
 use lib.ListN.{length, take}
 use Rattle.steps.specs.declared.Run.{Run}
 use Rattle.steps.specs.declared.Task.{Task}
 use Rattle.steps.specs.declared.Verdict.{Verdict}
 use Rattle.steps.specs.Step.{Tried, goes_on, run_at, counts}
-use Rattle.turns.specs.Combos.{behind}
 use Rattle.turns.specs.Moves.{Moved, Found, moved_to}
 use Rattle.turns.specs.Turning.{of_symbol, Numbers, Firsts, GoesOn}
 use Rattle.turns.proofs.Odometer.{begins}
 use Rattle.turns.proofs.Turning.{numbers_long}
 use Rattle.turns.proofs.Turning as turning
-use Rattle.passes.specs.Slices.{Slices, slices}
+use Rattle.passes.specs.Slices.{Slices}
 use Rattle.passes.specs.Follow.{Kept, InTurn, combos_in, halts, stored_at}
 use Rattle.passes.proofs.Following.{kept_ready}
 use Rattle.passes.proofs.Six.{follows_tried, tried_left, halted, goes_counted}
@@ -30,10 +27,10 @@ use Rattle.passes.proofs.combine.Goals as goal
 -- in the loop
 module _ {k : Task} {rights firsts edges picked : List ℕ} {left first spare stored : ℕ} {σ₀ σ : Slices}
     (pre : InTurn k rights first σ₀ (goes_on left first)
-        × Numbers k.count first firsts × Firsts (of_symbol σ₀.symbols rights) first k.count firsts)
+    × Numbers k.count first firsts × Firsts (of_symbol σ₀.symbols rights) first k.count firsts)
     (inv : Left k rights edges (combos_in k rights first σ₀.symbols) σ₀ (goes_on left first)
-        (take k.count picked ∷ after σ₀.symbols rights first k picked) σ (goes_on spare stored)
-        × Numbers k.count first picked) where
+    (take k.count picked ∷ after σ₀.symbols rights first k picked) σ (goes_on spare stored)
+    × Numbers k.count first picked) where
   abbrev r₀ : Run
   r₀ = goes_on left first
 

@@ -1,27 +1,15 @@
 -- `passes::combine` meets its contract. The invariant: what is done, the picked combination and what comes after it are all combinations
 -- of the turn. The measure is how many come after. Assumes nothing.
-use mathlib.Core.Path.{◌≡◌, refl, sym, ap, ◌∙◌, subst}
-use mathlib.Core.Bool.{false}
 use mathlib.Core.List.{List, ◌∷◌}
-use Prim.Native.Nat.{ℕ, ◌-◌}
-use borrow.Author.Rules.{rules}
-use borrow.Author.Tests.{not-true, not-false}
-use native.Mathlib.Omega.{arith}
+use Prim.Native.Nat.{ℕ}
 use lib.ListN.{length, take}
-use Rattle.steps.specs.declared.Run.{Run}
 use Rattle.steps.specs.declared.Task.{Task}
-use Rattle.steps.specs.declared.Verdict.{Verdict}
-use Rattle.steps.specs.Step.{goes_on, run_at}
+use Rattle.steps.specs.Step.{goes_on}
 use Rattle.turns.specs.Combos.{behind}
-use Rattle.turns.specs.Moves.{Moved, moved_to}
-use Rattle.turns.specs.Turning.{of_symbol, Numbers, GoesOn}
-use Rattle.turns.proofs.Odometer.{begins}
-use Rattle.passes.specs.Slices.{Slices, slices}
-use Rattle.passes.specs.Follow.{Kept, InTurn, combos_in, halts}
-use Rattle.passes.proofs.Following.{kept_ready}
-use Rattle.passes.proofs.Six.{follows_tried, tried_left, halted, goes_counted}
-use Rattle.passes.proofs.Six as six
-use Rattle.passes.proofs.Combining.{symbols_stay, Left, left_start, left_same, left_end, left_stop, left_tried}
+use Rattle.turns.specs.Turning.{of_symbol, Numbers}
+use Rattle.passes.specs.Slices.{slices}
+use Rattle.passes.specs.Follow.{combos_in}
+use Rattle.passes.proofs.Combining.{Left}
 use Rattle.passes.proofs.combine.Given as goal
 
 -- the combinations that come after the picked numbers

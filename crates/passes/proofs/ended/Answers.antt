@@ -1,6 +1,5 @@
 -- `passes::ended` meets its contract. Assumes nothing.
 use mathlib.Core.Path.{refl}
-use borrow.Author.Rules.{rules}
 use Rattle.passes.proofs.ended.Goals as goal
 
 pub returns : goal.returns

@@ -1,20 +1,13 @@
 -- `passes::pass` meets its contract. The invariant: the turns of the productions passed are followed. Assumes nothing.
-use mathlib.Core.Bool.{Bool}
-use mathlib.Core.Path.{◌≡◌, subst}
-use Prim.Native.Nat.{ℕ, ◌≤◌, ◌-◌}
-use borrow.Author.Rules.{rules}
-use native.Mathlib.Omega.{arith}
+use Prim.Native.Nat.{◌≤◌, ◌-◌}
 use Rattle.numbers.specs.Lists.{up_from}
 use Rattle.grammar.specs.Grammar.{production}
 use Rattle.grammar.specs.Table.{grammar_of}
 use Rattle.parts.specs.Rule.{takes_part}
-use Rattle.rules.specs.Passes.{System}
 use Rattle.rules.specs.Test.{system_in}
-use Rattle.passes.specs.Slices.{Slices, slices}
-use Rattle.passes.specs.Follow.{Follows, Kept, Roomy}
-use Rattle.passes.proofs.Following.{kept_roomy}
-use Rattle.passes.proofs.Passing.{through, pass_start, pass_more, pass_stop}
-use Rattle.passes.proofs.Tables.{few_productions}
+use Rattle.passes.specs.Slices.{slices}
+use Rattle.passes.specs.Follow.{Follows}
+use Rattle.passes.proofs.Passing.{through}
 use Rattle.passes.proofs.pass.Given as goal
 
 abbrev pub invariant-loop-number : goal.invariant-loop-number

@@ -2,20 +2,17 @@
 -- The measure is the free room: each pass but the last stores an entry. Assumes nothing.
 use mathlib.Core.Path.{◌≡◌, ap}
 use mathlib.Core.List.{List}
-use Prim.Native.Nat.{ℕ, ◌+◌, ◌-◌, ◌≤◌}
-use borrow.Author.Rules.{rules}
+use Prim.Native.Nat.{ℕ, ◌+◌, ◌≤◌}
 use native.Mathlib.Omega.{arith}
-use Rattle.numbers.specs.Lists.{up_from}
 use Rattle.rules.specs.declared.Answer.{Answer}
 use Rattle.rules.specs.declared.Answer.TheVariants.{Noncircular}
 use Rattle.steps.specs.declared.Course.TheVariants.{Going, Stopped}
 use Rattle.steps.specs.declared.Run.{Run}
-use Rattle.grammar.specs.Table.{grammar_of}
 use Rattle.rules.specs.Passes.{System, no_root, pass, passes}
 use Rattle.rules.specs.Test.{system_in}
-use Rattle.passes.specs.Slices.{Slices, slices, room_of, Tells}
+use Rattle.passes.specs.Slices.{Slices, room_of, Tells}
 use Rattle.steps.specs.Step.{goes_on}
-use Rattle.passes.specs.Follow.{Follows, Kept, Roomy, parts_among, unsaid, ending_of}
+use Rattle.passes.specs.Follow.{Follows, Kept, Roomy, unsaid, ending_of}
 use Rattle.passes.proofs.Following.{kept_then, kept_roomy}
 use Rattle.passes.proofs.Reaching.{roomy_start, tells, Reached, reached_start, reached_more, ends_stop, ends_done}
 use Rattle.passes.proofs.passes.Goals as goal

@@ -1,20 +1,12 @@
 -- `passes::passes` meets its contract. The invariant: from the state that was reached the passes go on to their outcome.
 -- The measure is the free room: each pass but the last stores an entry. Assumes nothing.
-use mathlib.Core.Path.{◌≡◌, ap}
-use mathlib.Core.List.{List}
-use Prim.Native.Nat.{ℕ, ◌-◌}
-use borrow.Author.Rules.{rules}
-use native.Mathlib.Omega.{arith}
+use Prim.Native.Nat.{◌-◌}
 use Rattle.numbers.specs.Lists.{up_from}
-use Rattle.steps.specs.declared.Run.{Run}
 use Rattle.grammar.specs.Table.{grammar_of}
-use Rattle.rules.specs.Passes.{System, pass}
 use Rattle.rules.specs.Test.{system_in}
-use Rattle.passes.specs.Slices.{Slices, slices}
-use Rattle.steps.specs.Step.{goes_on}
-use Rattle.passes.specs.Follow.{Follows, Kept, Roomy, parts_among}
-use Rattle.passes.proofs.Following.{kept_then, kept_roomy}
-use Rattle.passes.proofs.Reaching.{roomy_start, tells, Reached, reached_start, reached_more, ends_stop, ends_done}
+use Rattle.passes.specs.Slices.{slices}
+use Rattle.passes.specs.Follow.{parts_among}
+use Rattle.passes.proofs.Reaching.{Reached}
 use Rattle.passes.proofs.passes.Given as goal
 
 abbrev pub invariant-loop-answer : goal.invariant-loop-answer

@@ -2,7 +2,6 @@
 use mathlib.Core.Path.{◌≡◌, ap, ◌∙◌}
 use mathlib.Core.List.{List}
 use Prim.Native.Nat.{ℕ}
-use borrow.Author.Rules.{rules}
 use Rattle.grammar.specs.declared.Header.{Header}
 use Rattle.grammar.specs.Table.{P}
 use Rattle.grammar.specs.Reading.{header_of}

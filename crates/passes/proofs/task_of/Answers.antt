@@ -1,5 +1,4 @@
 -- `passes::task_of` meets its contract. Assumes nothing.
-use borrow.Author.Rules.{rules}
 use native.Mathlib.Omega.{arith}
 use Rattle.passes.specs.Follow.{task_of}
 use Rattle.passes.proofs.task_of.Goals as goal

@@ -1,20 +1,16 @@
 -- `passes::test` meets its contract. Assumes nothing.
-use mathlib.Core.Path.{◌≡◌, sym, ap, ◌∙◌}
+use mathlib.Core.Path.{sym, ap, ◌∙◌}
 use mathlib.Core.List.{List}
 use Prim.Native.Nat.{ℕ, ◌≤◌}
-use borrow.Author.Rules.{rules}
 use native.Mathlib.Omega.{arith}
 use lib.ListN.{length}
-use Rattle.grammar.specs.declared.Checked.TheVariants.{Good}
 use Rattle.grammar.specs.Table.{grammar_of}
-use Rattle.grammar.specs.Refusal.{refusal}
 use Rattle.parts.specs.Rule.{taking}
 use Rattle.rules.specs.declared.Report.{Report}
-use Rattle.rules.specs.Passes.{Outcome, passes}
+use Rattle.rules.specs.Passes.{passes}
 use Rattle.rules.specs.Test.{system_in}
 use Rattle.rules.proofs.Stored.{Counted, counted_passes_in}
 use Rattle.passes.specs.Slices.{Slices, slices, room_of, Tells}
-use Rattle.passes.specs.Follow.{unsaid}
 use Rattle.passes.proofs.Circles.{saying_told}
 use Rattle.passes.proofs.Told.{entries_fit}
 use Rattle.passes.proofs.Testing.{test_taken, test_refused, tells_refused, tells_same}

@@ -3,8 +3,6 @@ use mathlib.Core.Bool.{Bool, true, false}
 use mathlib.Core.List.{List}
 use mathlib.Core.Path.{◌≡◌, refl, sym, ap, ◌∙◌, subst}
 use Prim.Native.Nat.{ℕ, ◌≤◌}
-use borrow.Author.Rules.{rules}
-use borrow.Author.Tests.{not-true, not-false}
 use native.Mathlib.Omega.{arith}
 use lib.ListN.{length, replicate}
 use Rattle.grammar.specs.declared.Production.{Production}
@@ -17,12 +15,12 @@ use Rattle.graph.proofs.Tables.{few_rights}
 use Rattle.parts.specs.Rule.{takes_part}
 use Rattle.steps.specs.declared.Run.{Run}
 use Rattle.steps.specs.declared.Task.{Task}
-use Rattle.rules.specs.Passes.{System, turn}
+use Rattle.rules.specs.Passes.{turn}
 use Rattle.rules.specs.Test.{system_in}
 use Rattle.turns.specs.Moves.{Moved, Found, firsts_to}
 use Rattle.turns.specs.Turning.{of_symbol, Numbers, Firsts, Begins}
 use Rattle.turns.proofs.Turning.{begins}
-use Rattle.passes.specs.Slices.{Slices, slices}
+use Rattle.passes.specs.Slices.{Slices}
 use Rattle.passes.specs.Follow.{Follows, Roomy, task_of}
 use Rattle.passes.proofs.Following.{follows_going}
 use Rattle.passes.proofs.Combining.{over_none}

@@ -1,7 +1,6 @@
 -- The word, the links and the end of the line. Assumes nothing.
 use mathlib.Core.Path.{refl}
 use native.Mathlib.Omega.{arith}
-use borrow.Author.Rules.{rules}
 use Rattle.texts.specs.Lines.{circle_line}
 use Rattle.print.proofs.Placing.{placed, within, then, placed_length}
 use Rattle.print.proofs.circle_line.Goals as goal

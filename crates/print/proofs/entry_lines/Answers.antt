@@ -1,18 +1,12 @@
 -- Each turn has one entry's line more behind it. Assumes nothing.
 use mathlib.Core.Path.{◌≡◌, refl}
-use Prim.Native.Nat.{◌*◌, ◌-◌, ◌≤◌}
 use native.Mathlib.Omega.{arith}
 use borrow.Author.Rules.{rules}
-use Rattle.lines.specs.Buffer.{line_bytes}
 use Rattle.texts.specs.Lines.{entry_lines}
 use Rattle.passes.specs.Slices.{slices, entries_to}
-use Rattle.print.specs.Texts.{kids_in, Placed}
-use Rattle.print.proofs.Placing.{nothing, within, then, placed_length, one_more}
+use Rattle.print.specs.Texts.{kids_in}
+use Rattle.print.proofs.Placing.{nothing, within, then, one_more}
 use Rattle.print.proofs.entry_lines.Goals as goal
-
--- TODO same-length
--- same_length : tie.Need-same-length invariant-loop decreases-loop
--- same_length c = (placed_length (omega arith) c.before.loop.invariant.1).0
 
 pub loop-i-init : goal.loop-i-init
 unfolding entry_lines entries_to

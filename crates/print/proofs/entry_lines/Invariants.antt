@@ -1,13 +1,9 @@
 -- Each turn has one entry's line more behind it. Assumes nothing.
-use mathlib.Core.Path.{◌≡◌, refl}
 use Prim.Native.Nat.{◌*◌, ◌-◌, ◌≤◌}
-use native.Mathlib.Omega.{arith}
-use borrow.Author.Rules.{rules}
 use Rattle.lines.specs.Buffer.{line_bytes}
 use Rattle.texts.specs.Lines.{entry_lines}
 use Rattle.passes.specs.Slices.{slices, entries_to}
 use Rattle.print.specs.Texts.{kids_in, Placed}
-use Rattle.print.proofs.Placing.{nothing, within, then, placed_length, one_more}
 use Rattle.print.proofs.entry_lines.Given as goal
 
 abbrev pub invariant-loop-i : goal.invariant-loop-i

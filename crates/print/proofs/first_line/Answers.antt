@@ -1,4 +1,3 @@
-
 use borrow.Author.Rules.{rules}
 use Rattle.texts.proofs.Short.{first_short}
 use Rattle.print.proofs.first_line.Goals as goal

@@ -1,6 +1,5 @@
 -- The record's n. Assumes nothing.
 use mathlib.Core.Path.{ap, ◌∙◌}
-use borrow.Author.Rules.{rules}
 use Rattle.grammar.specs.declared.Production.{Production}
 use Rattle.print.specs.Texts.{kids_in}
 use Rattle.print.proofs.kids_in.Goals as goal

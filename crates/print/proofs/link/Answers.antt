@@ -1,4 +1,3 @@
-
 use borrow.Author.Rules.{rules}
 use Rattle.texts.proofs.Short.{link_short}
 use Rattle.print.proofs.link.Goals as goal

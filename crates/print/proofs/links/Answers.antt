@@ -1,19 +1,14 @@
 -- Each turn has one link more behind it. Assumes nothing.
-use mathlib.Core.Path.{◌≡◌, refl}
-use Prim.Native.Nat.{◌*◌, ◌-◌, ◌≤◌, min}
+use mathlib.Core.Path.{◌≡◌}
+use Prim.Native.Nat.{min}
 use native.Mathlib.Omega.{arith}
-use lib.ListN.{length, take}
+use lib.ListN.{length}
 use borrow.Author.Rules.{rules}
 use Rattle.numbers.proofs.Parts.{take_clipped}
 use Rattle.texts.specs.Lines.{links_text}
 use Rattle.texts.proofs.Spaced.{one_link_more}
-use Rattle.print.specs.Texts.{link_bytes, Placed}
-use Rattle.print.proofs.Placing.{nothing, within, then, placed_length}
+use Rattle.print.proofs.Placing.{nothing, within, then}
 use Rattle.print.proofs.links.Goals as goal
-
--- TODO same-length
--- same_length : tie.Need-same-length invariant-loop decreases-loop
--- same_length c = (placed_length (omega arith) c.before.loop.invariant.1).0
 
 pub loop-i-init : goal.loop-i-init
 unfolding links_text

@@ -1,14 +1,8 @@
 -- Each turn has one link more behind it. Assumes nothing.
-use mathlib.Core.Path.{◌≡◌, refl}
-use Prim.Native.Nat.{◌*◌, ◌-◌, ◌≤◌, min}
-use native.Mathlib.Omega.{arith}
-use lib.ListN.{length, take}
-use borrow.Author.Rules.{rules}
-use Rattle.numbers.proofs.Parts.{take_clipped}
+use Prim.Native.Nat.{◌*◌, ◌-◌, ◌≤◌}
+use lib.ListN.{take}
 use Rattle.texts.specs.Lines.{links_text}
-use Rattle.texts.proofs.Spaced.{one_link_more}
 use Rattle.print.specs.Texts.{link_bytes, Placed}
-use Rattle.print.proofs.Placing.{nothing, within, then, placed_length}
 use Rattle.print.proofs.links.Given as goal
 
 abbrev pub invariant-loop-i : goal.invariant-loop-i

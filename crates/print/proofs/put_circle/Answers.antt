@@ -1,7 +1,5 @@
 -- The two tests say whether there is room. Assumes nothing.
-use mathlib.Core.Path.{refl, ◌∙◌}
 use native.Mathlib.Omega.{arith}
-use borrow.Author.Rules.{rules}
 use Rattle.print.proofs.Circles.{no_room, put_there}
 use Rattle.print.proofs.put_circle.Goals as goal
 

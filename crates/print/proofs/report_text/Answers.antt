@@ -1,8 +1,6 @@
 -- The first line, then the rest. Assumes nothing.
 use mathlib.Core.Path.{sym, ◌∙◌}
 use native.Mathlib.Omega.{arith}
-use borrow.Author.Rules.{rules}
-use borrow.Author.Tests.{not-true, not-false}
 use Rattle.texts.specs.Lines.{printed}
 use Rattle.passes.specs.Slices.{slices}
 use Rattle.print.proofs.Placing.{then, placed_length, roomy, not_printed, is_printed}

@@ -1,7 +1,6 @@
 -- By the answer. Assumes nothing.
 use mathlib.Core.Path.{refl}
 use native.Mathlib.Omega.{arith}
-use borrow.Author.Rules.{rules}
 use Rattle.texts.specs.Lines.{rest}
 use Rattle.print.proofs.Placing.{nothing, within, then, placed_length}
 use Rattle.print.proofs.Resting.{entries_only}

@@ -1,7 +1,6 @@
 -- The root's line, then the circle's. Assumes nothing.
 use mathlib.Core.Path.{refl}
 use native.Mathlib.Omega.{arith}
-use borrow.Author.Rules.{rules}
 use Rattle.print.proofs.Placing.{within, then, placed_length}
 use Rattle.print.proofs.root_lines.Goals as goal
 

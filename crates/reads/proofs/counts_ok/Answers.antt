@@ -3,7 +3,6 @@ use mathlib.Core.Path.{◌≡◌, sym, ap, ap₂, ◌∙◌}
 use mathlib.Core.List.{List}
 use Prim.Native.Nat.{ℕ}
 use native.Mathlib.Omega.{arith}
-use borrow.Author.Rules.{rules}
 use lib.Dec.{ltb}
 use Rattle.numbers.proofs.Decides.{not_so, same_test, lt_decides}
 use Rattle.grammar.specs.Table.{N, P, E, start_of}

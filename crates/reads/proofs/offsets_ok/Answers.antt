@@ -1,8 +1,5 @@
 -- `reads::offsets_ok` meets its contract. Each return says what a table with right offsets would have had there. Assumes nothing.
 use mathlib.Core.Path.{sym, ap, ◌∙◌}
-use mathlib.Core.List.{List}
-use Prim.Native.Nat.{ℕ}
-use borrow.Author.Rules.{rules}
 use lib.ListN.{length}
 use lib.Dec.{eqb}
 use Rattle.numbers.proofs.Decides.{not_so, same_test, eq_decides}

@@ -1,7 +1,6 @@
 -- `reads::production_ok` meets its contract. Assumes nothing.
 use mathlib.Core.Path.{◌≡◌, sym, ap, ◌∙◌}
 use native.Mathlib.Omega.{arith}
-use borrow.Author.Tests.{not-true, not-false}
 use borrow.Author.Rules.{rules}
 use lib.Seq.{take_all}
 use lib.Dec.{ltb}

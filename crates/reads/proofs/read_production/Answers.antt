@@ -1,6 +1,5 @@
 -- `reads::read_production` meets its contract. Assumes nothing.
 use mathlib.Core.Path.{sym, ap, ap₂, ◌∙◌}
-use borrow.Author.Rules.{rules}
 use Rattle.grammar.specs.declared.Read.{Read}
 use Rattle.grammar.specs.Steps.{production_read}
 use Rattle.grammar.proofs.Handing.{kept, lost}

@@ -1,6 +1,5 @@
 -- `reads::read_symbol` meets its contract. Assumes nothing.
 use mathlib.Core.Path.{sym, ap, ◌∙◌}
-use borrow.Author.Rules.{rules}
 use Rattle.grammar.specs.declared.Read.{Read}
 use Rattle.grammar.specs.Table.{attributes}
 use Rattle.grammar.specs.Steps.{symbol_read}

@@ -1,14 +1,9 @@
 -- `reads::slots_below` meets its contract. What is left of the slots before the end, from k on, passes the test exactly if all of them do. Assumes nothing.
-use mathlib.Core.Path.{◌≡◌, refl, sym, ap, ◌∙◌}
+use mathlib.Core.Path.{◌≡◌}
 use Prim.Native.Nat.{◌≤◌, ◌-◌}
-use native.Mathlib.Omega.{arith}
-use borrow.Author.Tests.{le-ltb, lt-ltb}
-use borrow.Author.Rules.{rules}
-use lib.Seq.{get_or-take}
-use lib.ListN.{length, take, drop, length-take}
+use lib.ListN.{take, drop}
 use lib.Dec.{ltb}
 use Rattle.numbers.specs.Lists.{every}
-use Rattle.numbers.proofs.Every.{passes_at, fails_at, passes_all}
 use Rattle.reads.proofs.slots_below.Given as goal
 
 abbrev pub invariant-loop-k : goal.invariant-loop-k

@@ -1,8 +1,7 @@
 -- `steps::entry_of` meets its contract. Assumes nothing.
 use mathlib.Core.Path.{sym}
 use native.Mathlib.Omega.{arith}
-use borrow.Author.Rules.{rules}
-use Rattle.steps.specs.Slices.{Slices, slices, entry_at}
+use Rattle.steps.specs.Slices.{slices, entry_at}
 use Rattle.steps.proofs.Held.{entry_held, entry_none}
 use Rattle.steps.proofs.entry_of.Goals as goal
 

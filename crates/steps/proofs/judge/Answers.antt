@@ -1,7 +1,6 @@
 -- `steps::judge` meets its contract: each answer by the tests that led to it. Assumes nothing.
 use mathlib.Core.Path.{refl, sym, ap, ◌∙◌}
 use mathlib.Core.Bool.{true, false, false≢true}
-use borrow.Author.Rules.{rules}
 use borrow.Author.Tests.{eq-eqb, ne_eqb}
 use native.Mathlib.Omega.{arith}
 use Rattle.steps.specs.Step.{stores, verdict}

@@ -1,5 +1,4 @@
 -- `steps::room_of` meets its contract. Assumes nothing.
-use borrow.Author.Rules.{rules}
 use Rattle.steps.proofs.room_of.Goals as goal
 
 pub returns : goal.returns

@@ -1,7 +1,7 @@
 -- `steps::seen` meets its contract. The invariant: the entries from k on are not the symbol with the graph. Assumes nothing.
 use mathlib.Core.List.{List}
 use mathlib.Core.Path.{◌≡◌, refl, sym, ◌∙◌}
-use Prim.Native.Nat.{ℕ, ◌-◌, ◌≤◌}
+use Prim.Native.Nat.{ℕ, ◌-◌}
 use borrow.Author.Rules.{rules}
 use native.Mathlib.Omega.{arith}
 use lib.Dec.{eqb}
@@ -9,7 +9,6 @@ use lib.ListN.{get_or}
 use Rattle.numbers.specs.Lists.{both}
 use Rattle.numbers.proofs.Decides.{Decides, not_so, eq_decides, both_decides}
 use Rattle.numbers.proofs.Downward.{some_passes, some_fails, some_done}
-use Rattle.steps.specs.Step.{seen_in}
 use Rattle.steps.proofs.seen.Goals as goal
 
 -- the entry that is looked at
@@ -26,19 +25,17 @@ returns-then-graphs-k c =
     ∙ c.loop-k.invariant.1
 
 pub loop-k-preserved-else-graphs-k : goal.loop-k-preserved-else-graphs-k
-loop-k-preserved-else-graphs-k c =
-    (
-      search rules,
-      some_fails _ c.loop-k.k c.loop-k-test.true (not_so (is_it c.args.symbols.now c.args.graphs.now c.args.symbol c.args.graph (c.loop-k.k - 1)) (λ p. c.if-graphs-k.false p.1))
-          ∙ c.loop-k.invariant.1,
-    )
+loop-k-preserved-else-graphs-k c = (
+  search rules,
+  some_fails _ c.loop-k.k c.loop-k-test.true (not_so (is_it c.args.symbols.now c.args.graphs.now c.args.symbol c.args.graph (c.loop-k.k - 1)) (λ p. c.if-graphs-k.false p.1))
+      ∙ c.loop-k.invariant.1,
+)
 
 pub loop-k-preserved : goal.loop-k-preserved
-loop-k-preserved c =
-    (
-      search rules,
-      some_fails _ c.loop-k.k c.loop-k-test.true (not_so (is_it c.args.symbols.now c.args.graphs.now c.args.symbol c.args.graph (c.loop-k.k - 1)) (λ p. c.if-symbols-k.false p.0)) ∙ c.loop-k.invariant.1,
-    )
+loop-k-preserved c = (
+  search rules,
+  some_fails _ c.loop-k.k c.loop-k-test.true (not_so (is_it c.args.symbols.now c.args.graphs.now c.args.symbol c.args.graph (c.loop-k.k - 1)) (λ p. c.if-symbols-k.false p.0)) ∙ c.loop-k.invariant.1,
+)
 
 pub returns : goal.returns
 returns c =

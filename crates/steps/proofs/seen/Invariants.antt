@@ -1,13 +1,6 @@
 -- `steps::seen` meets its contract. The invariant: the entries from k on are not the symbol with the graph. Assumes nothing.
-use mathlib.Core.Path.{◌≡◌, refl, sym, ◌∙◌}
-use Prim.Native.Nat.{ℕ, ◌-◌, ◌≤◌}
-use borrow.Author.Rules.{rules}
-use native.Mathlib.Omega.{arith}
-use lib.Dec.{eqb}
-use lib.ListN.{get_or}
-use Rattle.numbers.specs.Lists.{both}
-use Rattle.numbers.proofs.Decides.{Decides, not_so, eq_decides, both_decides}
-use Rattle.numbers.proofs.Downward.{some_passes, some_fails, some_done}
+use mathlib.Core.Path.{◌≡◌}
+use Prim.Native.Nat.{◌≤◌}
 use Rattle.steps.specs.Step.{seen_in}
 use Rattle.steps.proofs.seen.Given as goal
 

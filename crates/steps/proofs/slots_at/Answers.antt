@@ -1,9 +1,8 @@
 -- `steps::slots_at` meets its contract. The invariant: the first k slots are copied. Assumes nothing.
 use mathlib.Core.Path.{◌≡◌, refl, sym, ◌∙◌}
-use Prim.Native.Nat.{◌-◌, ◌≤◌}
 use native.Mathlib.Omega.{arith}
 use borrow.Author.Rules.{rules}
-use lib.ListN.{length, take, drop, length-set}
+use lib.ListN.{length-set}
 use lib.Seq.{take_all}
 use Rattle.numbers.proofs.Parts.{copied_more}
 use Rattle.steps.proofs.slots_at.Goals as goal

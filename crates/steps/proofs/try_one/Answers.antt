@@ -2,12 +2,8 @@
 use mathlib.Core.Path.{◌≡◌, sym, ap, ◌∙◌}
 use mathlib.Core.Bool.{true}
 use Prim.Native.Nat.{ℕ}
-use borrow.Author.Rules.{rules}
-use lib.ListN.{length}
-use Rattle.rules.specs.declared.Entry.{Entry}
 use Rattle.steps.specs.Slices.{Slices, slices, put_in}
 use Rattle.steps.specs.Step.{stores, entry_of}
-use Rattle.steps.proofs.Held.{put_long}
 use Rattle.steps.proofs.Verdicts.{slices_new, slices_same, is_stored}
 use Rattle.steps.proofs.try_one.Goals as goal
 

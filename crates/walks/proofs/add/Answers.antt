@@ -3,7 +3,6 @@ use mathlib.Core.Path.{sym, ap}
 use Prim.Native.Nat.{ℕ, ◌/◌, ◌%◌}
 use native.Mathlib.Omega.{arith}
 use borrow.Author.Tests.{le-ltb, lt-ltb}
-use borrow.Author.Rules.{rules}
 use lib.Bits.{bit_or}
 use lib.ListN.{get_or, set}
 use Rattle.numbers.proofs.Bits.{power_fits}

@@ -1,15 +1,12 @@
 -- `walks::add_all` meets its contract. The loop's invariant: the right symbols that are left, added to the set, are all of them.
 -- Assumes nothing.
-use mathlib.Core.Path.{◌≡◌, refl, sym, ap, subst, ◌∙◌}
-use Prim.Native.Nat.{◌≤◌, ◌+◌, ◌-◌}
-use native.Mathlib.Omega.{arith}
-use borrow.Author.Rules.{rules}
+use mathlib.Core.Path.{◌≡◌}
+use Prim.Native.Nat.{◌≤◌, ◌-◌}
 use lib.ListN.{drop}
 use Rattle.grammar.specs.Grammar.{rights}
 use Rattle.grammar.specs.Table.{production_in}
-use Rattle.parts.specs.Sets.{add, add_all}
-use Rattle.parts.proofs.Sets.{IsSet, add_set}
-use Rattle.walks.proofs.Steps.{all_next, all_done}
+use Rattle.parts.specs.Sets.{add_all}
+use Rattle.parts.proofs.Sets.{IsSet}
 use Rattle.walks.proofs.add_all.Given as goal
 
 abbrev pub invariant-loop-k : goal.invariant-loop-k

@@ -1,11 +1,7 @@
 -- `walks::all_in` meets its contract. What is left of the right symbols, from k on, passes the test exactly if all of them do. Assumes nothing.
-use mathlib.Core.Path.{◌≡◌, refl, sym, ap, ◌∙◌}
-use Prim.Native.Nat.{◌≤◌, ◌-◌}
+use mathlib.Core.Path.{refl, sym, ap, ◌∙◌}
 use native.Mathlib.Omega.{arith}
-use borrow.Author.Tests.{not-true, not-false}
 use borrow.Author.Rules.{rules}
-use lib.ListN.{drop}
-use Rattle.numbers.specs.Lists.{every}
 use Rattle.numbers.proofs.Every.{passes_at, fails_at, passes_all}
 use Rattle.grammar.specs.Grammar.{rights}
 use Rattle.grammar.specs.Table.{production_in}

@@ -1,14 +1,8 @@
 -- `walks::all_of` meets its contract. What is left of the symbols, from k on, passes the test exactly if all of them do. Assumes nothing.
-use mathlib.Core.Path.{◌≡◌, sym, ap, ◌∙◌}
-use Prim.Native.Nat.{◌≤◌, ◌-◌, min}
-use native.Mathlib.Omega.{arith}
-use borrow.Author.Tests.{not-true, not-false}
-use borrow.Author.Rules.{rules}
-use lib.ListN.{length, take, drop, length-take}
-use lib.Seq.{get_or-take}
+use mathlib.Core.Path.{◌≡◌}
+use Prim.Native.Nat.{◌≤◌, ◌-◌}
+use lib.ListN.{length, take, drop}
 use Rattle.numbers.specs.Lists.{every}
-use Rattle.numbers.proofs.Every.{passes_at, fails_at, passes_all}
-use Rattle.numbers.proofs.Parts.{take_clipped}
 use Rattle.parts.specs.Sets.{has}
 use Rattle.walks.proofs.all_of.Given as goal
 

@@ -1,7 +1,6 @@
 -- `walks::begin` meets its contract. Assumes nothing.
 use mathlib.Core.Path.{sym, ◌∙◌}
 use mathlib.Core.List.{[], ◌∷◌}
-use borrow.Author.Rules.{rules}
 use Rattle.parts.specs.Sets.{none, add_all}
 use Rattle.parts.specs.Rule.{begun}
 use Rattle.parts.proofs.Sets.{none_set}

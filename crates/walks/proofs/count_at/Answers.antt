@@ -1,7 +1,6 @@
 -- `walks::count_at` meets its contract. Assumes nothing.
 use mathlib.Core.Path.{sym, ap, ◌∙◌}
 use Prim.Native.Nat.{ℕ, min}
-use borrow.Author.Rules.{rules}
 use Rattle.grammar.proofs.Lookups.{rights_many}
 use Rattle.walks.proofs.count_at.Goals as goal
 

@@ -1,13 +1,9 @@
 -- `walks::from_start` meets its contract. The loop's invariant: the set has the start symbol, if that has a finite tree, and keeps within the
 -- symbols that are reached. The measure is how many symbols it does not have. Assumes nothing.
 use mathlib.Core.Path.{sym, ap, subst, ◌∙◌}
-use Prim.Native.Nat.{◌-◌}
-use borrow.Author.Tests.{not-true, not-false}
-use borrow.Author.Rules.{rules}
 use Rattle.grammar.specs.Table.{grammar_of}
 use Rattle.parts.specs.Rule.{begun, reached}
 use Rattle.parts.proofs.Sets.{Within, IsSet}
-use Rattle.parts.proofs.Sizes.{size}
 use Rattle.parts.proofs.Rule.{begun_set, begun_reached}
 use Rattle.parts.proofs.Tables.{start_is}
 use Rattle.walks.proofs.Loops.{nearer, reached_kept, reached_found, all_reached}

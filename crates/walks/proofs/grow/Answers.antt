@@ -1,7 +1,5 @@
 -- `walks::grow` meets its contract. Assumes nothing.
 use mathlib.Core.Path.{sym, ap, subst, ◌∙◌}
-use borrow.Author.Tests.{not-true, not-false}
-use borrow.Author.Rules.{rules}
 use Rattle.grammar.specs.Table.{production_in}
 use Rattle.parts.specs.Sets.{has, add}
 use Rattle.walks.specs.Walk.{Added}

@@ -1,7 +1,6 @@
 -- `walks::is_in` meets its contract. Assumes nothing.
 use mathlib.Core.Path.{sym}
 use native.Mathlib.Omega.{arith}
-use borrow.Author.Rules.{rules}
 use Rattle.parts.proofs.Sets.{not_past}
 use Rattle.walks.proofs.Steps.{has_there}
 use Rattle.walks.proofs.is_in.Goals as goal

@@ -1,6 +1,5 @@
 -- `walks::is_whole` meets its contract. Assumes nothing.
 use mathlib.Core.Path.{ap}
-use borrow.Author.Rules.{rules}
 use lib.Dec.{leb}
 use lib.ListN.{length}
 use Rattle.grammar.specs.declared.Offsets.{Offsets}

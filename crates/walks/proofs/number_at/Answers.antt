@@ -1,6 +1,5 @@
 -- `walks::number_at` meets its contract. Assumes nothing.
 use native.Mathlib.Omega.{arith}
-use borrow.Author.Rules.{rules}
 use Rattle.walks.proofs.number_at.Goals as goal
 
 pub returns-else-up : goal.returns-else-up

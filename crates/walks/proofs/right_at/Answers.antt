@@ -1,7 +1,6 @@
 -- `walks::right_at` meets its contract. Assumes nothing.
 use mathlib.Core.Path.{sym, ◌∙◌}
 use native.Mathlib.Omega.{arith}
-use borrow.Author.Rules.{rules}
 use Rattle.grammar.proofs.Lookups.{rights_many, right_at}
 use Rattle.walks.proofs.right_at.Goals as goal
 

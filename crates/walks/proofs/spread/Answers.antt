@@ -1,8 +1,6 @@
 -- `walks::spread` meets its contract. Assumes nothing.
 use mathlib.Core.Path.{sym, ap, subst, ◌∙◌}
 use mathlib.Core.Bool.{true}
-use borrow.Author.Tests.{not-true, not-false}
-use borrow.Author.Rules.{rules}
 use Rattle.grammar.specs.Grammar.{rights}
 use Rattle.grammar.specs.Table.{production_in}
 use Rattle.parts.specs.Sets.{has}

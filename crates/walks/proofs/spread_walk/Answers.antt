@@ -1,22 +1,17 @@
 -- `walks::spread_walk` meets its contract. The loop's invariant: the walk over the productions that are left gives what the whole walk gives.
 -- Assumes nothing.
-use mathlib.Core.Path.{◌≡◌, refl, sym, ap, subst, ◌∙◌}
-use Prim.Native.Nat.{◌≤◌, ◌-◌}
+use mathlib.Core.Path.{refl, sym, ap, subst, ◌∙◌}
 use native.Mathlib.Omega.{arith}
 use borrow.Author.Rules.{rules}
-use lib.ListN.{drop}
-use Rattle.grammar.specs.Table.{P, at_productions, grammar_of}
-use Rattle.parts.specs.Rule.{walk, spread}
-use Rattle.parts.proofs.Sets.{IsSet}
-use Rattle.walks.specs.Walk.{turned, Added}
+use Rattle.parts.specs.Rule.{spread}
+use Rattle.walks.specs.Walk.{Added}
 use Rattle.walks.proofs.Steps.{added_nothing, added_more, added_same, spread_is}
 use Rattle.walks.proofs.Orders.{walk_next, walk_done}
 use Rattle.walks.proofs.spread_walk.Goals as goal
 
 pub loop-i-init : goal.loop-i-init
 loop-i-init c =
-    let h = c.header_of.ensures in
-    (
+    let h = c.header_of.ensures in (
       search rules,
       c.wide-n.ensures ∙ ap (λ c. c.productions) h,
       ap (λ c. c.productions) c.offsets_of-first.ensures,
@@ -27,8 +22,7 @@ loop-i-init c =
 
 pub spread-requires : goal.spread-requires
 spread-requires c =
-    let inv = c.loop-i.invariant in
-    (
+    let inv = c.loop-i.invariant in (
       record { there = omega (arith, inv.1, inv.2, c.requires.0, c.number_at.ensures.1); is_set = inv.3 },
       c.requires.2,
     )

@@ -1,16 +1,12 @@
 -- `walks::spread_walk` meets its contract. The loop's invariant: the walk over the productions that are left gives what the whole walk gives.
 -- Assumes nothing.
-use mathlib.Core.Path.{◌≡◌, refl, sym, ap, subst, ◌∙◌}
+use mathlib.Core.Path.{◌≡◌}
 use Prim.Native.Nat.{◌≤◌, ◌-◌}
-use native.Mathlib.Omega.{arith}
-use borrow.Author.Rules.{rules}
 use lib.ListN.{drop}
 use Rattle.grammar.specs.Table.{P, at_productions, grammar_of}
 use Rattle.parts.specs.Rule.{walk, spread}
 use Rattle.parts.proofs.Sets.{IsSet}
 use Rattle.walks.specs.Walk.{turned, Added}
-use Rattle.walks.proofs.Steps.{added_nothing, added_more, added_same, spread_is}
-use Rattle.walks.proofs.Orders.{walk_next, walk_done}
 use Rattle.walks.proofs.spread_walk.Given as goal
 
 abbrev pub invariant-loop-i : goal.invariant-loop-i

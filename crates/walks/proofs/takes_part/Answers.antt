@@ -1,7 +1,5 @@
 -- `walks::takes_part` meets its contract. Assumes nothing.
 use mathlib.Core.Path.{sym, ap, ◌∙◌}
-use borrow.Author.Tests.{not-true, not-false}
-use borrow.Author.Rules.{rules}
 use lib.ListN.{take}
 use Rattle.numbers.specs.Lists.{every}
 use Rattle.parts.specs.Sets.{has}

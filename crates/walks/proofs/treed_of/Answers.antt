@@ -1,6 +1,5 @@
 -- `walks::treed_of` meets its contract. Assumes nothing.
 use mathlib.Core.Path.{sym, ◌∙◌}
-use borrow.Author.Rules.{rules}
 use borrow.Author.Tests.{leb-true}
 use Rattle.parts.proofs.Tables.{set_short, set_whole}
 use Rattle.walks.proofs.treed_of.Goals as goal

@@ -1,12 +1,10 @@
 -- `walks::with_trees` meets its contract. The loop's invariant: the set keeps within the symbols that have a finite tree. The measure is how
 -- many symbols it does not have. Assumes nothing.
-use mathlib.Core.Path.{sym}
 use Prim.Native.Nat.{◌-◌}
 use Rattle.grammar.specs.Table.{grammar_of}
 use Rattle.parts.specs.Rule.{treed}
-use Rattle.parts.proofs.Sets.{Within, IsSet, none_set, in_none}
+use Rattle.parts.proofs.Sets.{Within, IsSet}
 use Rattle.parts.proofs.Sizes.{size}
-use Rattle.walks.proofs.Loops.{nearer, trees_kept, trees_found}
 use Rattle.walks.proofs.with_trees.Given as goal
 
 abbrev pub invariant-loop-up : goal.invariant-loop-up
