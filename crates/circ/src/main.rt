@@ -119,14 +119,14 @@ fn print_report<W: Write>(output: &mut W, table: &[u8]) -> bool
 
 // How a run ends.
 #[derive(Clone, Copy)]
-pub enum Ended {
+enum Ended {
     Printed,
     Unread,
     Unwritten,
 }
 
 // Reads a table and prints the report of its test.
-pub fn run<R: Read, W: Write>(input: &mut R, output: &mut W) -> Ended
+fn run<R: Read, W: Write>(input: &mut R, output: &mut W) -> Ended
     ensures { Answered (R.remaining input.old) (W.contents output.old) (W.contents output.new) result }
 {
     let mut table = table_buffer();

@@ -14,7 +14,7 @@ use Rattle.grammar.specs.declared.Broken.{Broken}
 use Rattle.grammar.specs.declared.Broken.TheVariants.{Record}
 use Rattle.grammar.specs.Grammar.{Grammar, symbol, production}
 use Rattle.grammar.specs.Table.{N, P, E, width_of, grammar_of}
-use Rattle.grammar.specs.Rules.{CountsInRange, OffsetsRight, ProductionThere, OccurrencesThere, AttributesThere, TargetAllowed, AboveBefore, AllGood, FirstBad, SymbolGood, ProductionGood, EdgeGood, EdgeBreaks, no_production_lem, no_occurrence, no_attribute, not_allowed, not_above, BeforeRecords, BeforeEdges, Breaks, header_short, counts, offsets, symbol_bad, production_bad, edge_bad, key, edge}
+use Rattle.grammar.specs.Rules.{CountsInRange, OffsetsRight, ProductionThere, OccurrencesThere, AttributesThere, TargetAllowed, AboveBefore, AllGood, FirstBad, SymbolGood, ProductionGood, EdgeGood, EdgeBreaks, no_such_production, no_occurrence, no_attribute, not_allowed, not_above, BeforeRecords, BeforeEdges, Breaks, header_short, counts, offsets, symbol_bad, production_bad, edge_bad, key, edge}
 use Rattle.grammar.specs.Refusal.{counts_ok, offsets_ok, symbol_ok, production_ok, occurrences_ok, attributes_ok, target_ok, in_order, or_rule, edge_breaks, edge_rule, first_bad, and_check, refusal}
 use Rattle.grammar.specs.Steps.{symbols_check, productions_check, edges_check}
 use Rattle.grammar.specs.Valid.{RefusalExactly}
@@ -123,7 +123,7 @@ module _ (g : Grammar) where
         ((order_decides i).passes h.1)
 
     pub edge_broken : (k : ℕ) → EdgeBreaks g i k → edge_rule g i ≡ k
-    edge_broken k (no_production_lem n) = rule_is ∙ ten _ _ _ _ _ (not_so (there_decides g (edge g i)) n)
+    edge_broken k (no_such_production n) = rule_is ∙ ten _ _ _ _ _ (not_so (there_decides g (edge g i)) n)
     edge_broken k (no_occurrence p n) =
         rule_is ∙ eleven _ _ _ _ _ ((there_decides g (edge g i)).passes p) (not_so (occurrences_decide g (edge g i)) n)
     edge_broken k (no_attribute p o n) =
@@ -142,7 +142,7 @@ module _ (g : Grammar) where
         ((allowed_decides g (edge g i)).passes h.allowed) (not_so (order_decides i) n)
 
     pub edge_some : (k : ℕ) → EdgeBreaks g i k → 0 < k
-    edge_some k (no_production_lem n) = lit< tt
+    edge_some k (no_such_production n) = lit< tt
     edge_some k (no_occurrence p n) = lit< tt
     edge_some k (no_attribute p o n) = lit< tt
     edge_some k (not_allowed p o a n) = lit< tt
@@ -166,7 +166,7 @@ module _ (g : Grammar) where
             → Outcome (target_ok g (edge g i)) (TargetAllowed g (edge g i))
             → Outcome (in_order i (edge g (i - 1)) (edge g i)) (AboveBefore g i)
             → RuleSaid (EdgeGood g) (EdgeBreaks g) i (edge_rule g i)
-        go (fails p n) b c d e = told_by (ten _ _ _ _ _ p) (broken (no_production_lem n))
+        go (fails p n) b c d e = told_by (ten _ _ _ _ _ p) (broken (no_such_production n))
         go (holds p u) (fails q n) c d e = told_by (eleven _ _ _ _ _ p q) (broken (no_occurrence u n))
         go (holds p u) (holds q v) (fails r n) d e = told_by (twelve _ _ _ _ _ p q r) (broken (no_attribute u v n))
         go (holds p u) (holds q v) (holds r w) (fails s n) e = told_by (thirteen _ _ _ _ _ p q r s) (broken (not_allowed u v w n))

@@ -125,7 +125,7 @@ EdgeGood g i = GoodEdge g (edge g i) × AboveBefore g i
 
 -- the edge i breaks the rule k, and none that is looked at before it: 10 to 13 in this order, then 7
 pub data EdgeBreaks (g : Grammar) (i : ℕ) : ℕ → Type 0 where
-  no_production_lem : (¬ ProductionThere g (edge g i)) → EdgeBreaks g i 10
+  no_such_production : (¬ ProductionThere g (edge g i)) → EdgeBreaks g i 10
   no_occurrence : ProductionThere g (edge g i) → (¬ OccurrencesThere g (edge g i)) → EdgeBreaks g i 11
   no_attribute : ProductionThere g (edge g i) → OccurrencesThere g (edge g i) → (¬ AttributesThere g (edge g i)) → EdgeBreaks g i 12
   not_allowed :

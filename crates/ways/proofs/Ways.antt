@@ -40,7 +40,7 @@ use Rattle.texts.specs.Lines.{kids_in}
 use Rattle.texts.specs.Telling.{OthersZero, RootZero, UnprintedZero}
 use Rattle.texts.proofs.Telling.{said_zero, printed_tells}
 use Rattle.verdict.specs.Demands.{back, answer}
-use Rattle.ways.specs.Ways.{slices_given, slices_left, ProgramAlways, read_row, RowProgram, RowAlways, answer_from, unflat, NumbersTell, export_given, export_left, numbers_left, ExportAlways, TextTells, TouchedFalls, TouchedRowFalls}
+use Rattle.ways.specs.Ways.{slices_given, slices_left, ProgramAlways, read_row, RowProgram, RowPlainAlways, RowAlways, answer_from, unflat, NumbersTell, export_given, export_left, numbers_left, ExportAlways, TextTells, TouchedFalls, TouchedRowFalls}
 use Rattle.verdict.proofs.Obeys.{obeys}
 use Rattle.verdict.proofs.Demands.{refused, either, sound}
 use Rattle.verdict.proofs.Circle.{circle_is, places_said}
@@ -87,6 +87,9 @@ module _ (bs : List ℕ) (limit : ℕ) (before : List Entry) (r : Report) (after
         whole = w;
         demanded = demanded bs limit R (read_row r after) w;
       }
+
+pub program_of_records_plain : RowPlainAlways
+program_of_records_plain κs a r s = carried_row a.0.now a.1.0 a.1.1.0.now r s.1.1.0.now
 
 pub program_of_records : RowAlways
 program_of_records M 𝓤 𝓛 mem run κs a r s =
@@ -140,7 +143,7 @@ broken_told bs b (Breaks.production_bad h s i f) = rw (ne_eqb i no_value (λ e. 
 broken_told bs b (Breaks.edge_bad h i k l all bad) = go k bad (ne_eqb i no_value (λ e. omega (arith, h.0.1.edges)))
   where
     go : (k : ℕ) → EdgeBreaks (grammar_of bs) i k → eqb i no_value ≡ false → answer_from k i ≡ Refused (Record k i)
-    go k (EdgeBreaks.no_production_lem n) e = rw e
+    go k (EdgeBreaks.no_such_production n) e = rw e
     go k (EdgeBreaks.no_occurrence p n) e = rw e
     go k (EdgeBreaks.no_attribute p o n) e = rw e
     go k (EdgeBreaks.not_allowed p o a n) e = rw e

@@ -27,6 +27,8 @@ use Rattle.passes.specs.Slices.{Slices, slices}
 use Rattle.passes.proofs.test.Kinds as slices_kinds
 use Rattle.passes.proofs.test.Reads as slices_reads
 use Rattle.records.specs.Records.{row_room}
+use Rattle.records.proofs.test.Kinds as row_kinds
+use Rattle.records.proofs.test.Reads as row_reads
 use Rattle.records.specs.contracts.test as row
 use Rattle.flats.specs.Flat.{flat}
 use Rattle.kusillaqe.proofs.kusillaqe_test.Kinds as export_kinds
@@ -74,8 +76,12 @@ pub record RowProgram (bs : List ℕ) (limit : ℕ) (before : List Entry) (r : R
   pub whole : read_row r after ≡ back bs limit (row_room before)
   pub demanded : Demanded bs limit (row_room before) (read_row r after)
 
--- the functions over a row have no plain reading of their promise, so this is said in the logic: in every model, whoever has the promise
--- has all this
+abbrev pub RowPlainAlways : Type 0
+RowPlainAlways =
+    (κs : Lfts 2) (a : Dens κs row_kinds.ps) (r : Report) (s : AtExit (ended_of 2 row_kinds.ps row_kinds.r) κs)
+    → row_reads.Post κs a r s → RowProgram a.0.now a.1.0 a.1.1.0.now r s.1.1.0.now
+
+-- the same, said in the logic: in every model of it, whoever has the promise has all this
 abbrev pub RowAlways : Type 2
 RowAlways =
     (M : Type 1) (𝓤 : Ura M) (𝓛 : Logic 𝓤) (mem : Memory → SProp 𝓤) (run : Routine → Fun 𝓤)
