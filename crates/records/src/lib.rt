@@ -13,8 +13,7 @@ use rules::{Entry, MOST_ENTRIES, Report};
 
 const KIDS: usize = SLOTS * MOST_ENTRIES;
 
-// The entry at i of the parallel slices; beyond their room the entry of zeros. The four are lent at one lifetime, as the walk over a row
-// lends them.
+// The entry at i of the parallel slices; beyond their room the entry of zeros.
 fn entry_of<'a>(
     symbols: &'a [u16],
     graphs: &'a [u64],
