@@ -24,31 +24,31 @@ loop-i-init c =
 pub returns-in_default : goal.returns-in_default
 returns-in_default c =
     let bs = c.args.table.now in
-    let at_i = c.loop-i in
-    let l : at_i.i < E bs = omega arith in
-    let q = c.read_edge-read.ensures ∙ reads_edge bs at_i.before at_i.i l (at_i.invariant.2 l) in
+    let here = c.loop-i in
+    let l : here.i < E bs = omega arith in
+    let q = c.read_edge-read.ensures ∙ reads_edge bs here.before here.i l (here.invariant.2 l) in
     c.handed_up.ensures
-    ∙ ap (handed_up at_i.i) q
-    ∙ loop_stops (edge_rule (grammar_of bs)) (E bs) at_i.i l (edge_agrees (grammar_of bs) at_i.i _ _) (λ e. c.in_default.not-Edge _ (q ∙ e))
-    ∙ at_i.invariant.3
+    ∙ ap (handed_up here.i) q
+    ∙ loop_stops (edge_rule (grammar_of bs)) (E bs) here.i l (edge_agrees (grammar_of bs) here.i _ _) (λ e. c.in_default.not-Edge _ (q ∙ e))
+    ∙ here.invariant.3
 
 pub loop-i-preserved : goal.loop-i-preserved
 loop-i-preserved c =
     let bs = c.args.table.now in
-    let at_i = c.loop-i in
-    let l : at_i.i < E bs = omega arith in
-    let q = sym (c.read_edge-read.ensures ∙ reads_edge bs at_i.before at_i.i l (at_i.invariant.2 l)) ∙ c.in-Edge.is in
-    let a = edge_agrees (grammar_of bs) at_i.i (edge (grammar_of bs) (at_i.i - 1)) (edge (grammar_of bs) at_i.i) in
-    let same = (was_read (Read.Edge (edge (grammar_of bs) at_i.i)) a _ (λ e. omega arith) q).1 in
-    let back : at_i.i + 1 - 1 ≡ at_i.i = omega arith in (
+    let here = c.loop-i in
+    let l : here.i < E bs = omega arith in
+    let q = sym (c.read_edge-read.ensures ∙ reads_edge bs here.before here.i l (here.invariant.2 l)) ∙ c.in-Edge.is in
+    let a = edge_agrees (grammar_of bs) here.i (edge (grammar_of bs) (here.i - 1)) (edge (grammar_of bs) here.i) in
+    let same = (was_read (Read.Edge (edge (grammar_of bs) here.i)) a _ (λ e. omega arith) q).1 in
+    let back : here.i + 1 - 1 ≡ here.i = omega arith in (
       omega arith,
-      at_i.invariant.1,
+      here.invariant.1,
       λ u z. rw back (cc),
-      loop_goes (edge_rule (grammar_of bs)) (E bs) at_i.i l a _ (λ e. omega arith) q ∙ at_i.invariant.3,
+      loop_goes (edge_rule (grammar_of bs)) (E bs) here.i l a _ (λ e. omega arith) q ∙ here.invariant.3,
     )
 
 pub returns : goal.returns
 returns c =
     let bs = c.args.table.now in
-    let at_i = c.loop-i in
-    first_ends (edge_rule (grammar_of bs)) (E bs) at_i.i (omega arith) ∙ at_i.invariant.3
+    let here = c.loop-i in
+    first_ends (edge_rule (grammar_of bs)) (E bs) here.i (omega arith) ∙ here.invariant.3

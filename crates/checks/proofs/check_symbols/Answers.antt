@@ -18,25 +18,25 @@ loop-i-init c =
 pub returns-in_default : goal.returns-in_default
 returns-in_default c =
     let bs = c.args.table.now in
-    let at_i = c.loop-i in
+    let here = c.loop-i in
     let q = c.read_symbol-read.ensures in
     c.handed_up.ensures
-    ∙ ap (handed_up at_i.i) q
-    ∙ loop_stops (symbol_rule bs) (N bs) at_i.i (omega arith) (agrees_or (symbol_ok (width_of bs) (symbol (grammar_of bs) at_i.i)) 4 (omega arith) whole) (λ e. c.in_default.not-Symbol _ (q ∙ e))
-    ∙ at_i.invariant.2
+    ∙ ap (handed_up here.i) q
+    ∙ loop_stops (symbol_rule bs) (N bs) here.i (omega arith) (agrees_or (symbol_ok (width_of bs) (symbol (grammar_of bs) here.i)) 4 (omega arith) whole) (λ e. c.in_default.not-Symbol _ (q ∙ e))
+    ∙ here.invariant.2
 
 pub loop-i-preserved : goal.loop-i-preserved
 loop-i-preserved c =
     let bs = c.args.table.now in
-    let at_i = c.loop-i in
+    let here = c.loop-i in
     let q = sym c.read_symbol-read.ensures ∙ c.in-Symbol.is in (
       omega arith,
-      at_i.invariant.1,
-      loop_goes (symbol_rule bs) (N bs) at_i.i (omega arith) (agrees_or (symbol_ok (width_of bs) (symbol (grammar_of bs) at_i.i)) 4 (omega arith) whole) _ (λ e. omega arith) q ∙ at_i.invariant.2,
+      here.invariant.1,
+      loop_goes (symbol_rule bs) (N bs) here.i (omega arith) (agrees_or (symbol_ok (width_of bs) (symbol (grammar_of bs) here.i)) 4 (omega arith) whole) _ (λ e. omega arith) q ∙ here.invariant.2,
     )
 
 pub returns : goal.returns
 returns c =
     let bs = c.args.table.now in
-    let at_i = c.loop-i in
-    first_ends (symbol_rule bs) (N bs) at_i.i (omega arith) ∙ at_i.invariant.2
+    let here = c.loop-i in
+    first_ends (symbol_rule bs) (N bs) here.i (omega arith) ∙ here.invariant.2

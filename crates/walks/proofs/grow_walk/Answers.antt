@@ -13,8 +13,8 @@ pub loop-i-init : goal.loop-i-init
 loop-i-init c =
     let h = c.header_of.ensures in (
       search rules,
-      c.wide-n.ensures ∙ ap (λ c. c.productions) h,
-      ap (λ c. c.productions) c.offsets_of-first.ensures,
+      c.wide-n.ensures ∙ ap (λ x. x.productions) h,
+      ap (λ x. x.productions) c.offsets_of-first.ensures,
       c.requires.1,
       refl,
       added_nothing c.args.set.now,
