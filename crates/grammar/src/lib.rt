@@ -29,14 +29,14 @@ pub const OCCURRENCES: usize = SLOTS + 1;
 pub const NODES: usize = ATTRIBUTES * OCCURRENCES;
 
 // Attributes 0 to `count` - 1; `mask` has a bit for each, set where it is inherited.
-#[derive(Clone, Copy)]
+#[derive(Clone, Copy, PartialEq, Eq)]
 pub struct Symbol {
     pub count: u8,
     pub mask: u16,
 }
 
 // Of the slots the first `n` are the right symbols.
-#[derive(Clone, Copy)]
+#[derive(Clone, Copy, PartialEq, Eq)]
 pub struct Production {
     pub left: u16,
     pub n: u16,
@@ -44,14 +44,14 @@ pub struct Production {
 }
 
 // An attribute of an occurrence of a production: 0 is its left symbol, 1 to n are the right ones.
-#[derive(Clone, Copy)]
+#[derive(Clone, Copy, PartialEq, Eq, PartialOrd, Ord)]
 pub struct Node {
     pub occurrence: u8,
     pub attribute: u8,
 }
 
 // The target takes its value from the source.
-#[derive(Clone, Copy)]
+#[derive(Clone, Copy, PartialEq, Eq, PartialOrd, Ord)]
 pub struct Edge {
     pub production: u16,
     pub source: Node,
@@ -59,7 +59,7 @@ pub struct Edge {
 }
 
 // The counts of the records, and the start symbol.
-#[derive(Clone, Copy)]
+#[derive(Clone, Copy, PartialEq, Eq)]
 pub struct Header {
     pub symbols: u16,
     pub productions: u16,
@@ -68,7 +68,7 @@ pub struct Header {
 }
 
 // Where the records of each kind begin, and where the last ends: as wide as in the table.
-#[derive(Clone, Copy)]
+#[derive(Clone, Copy, PartialEq, Eq)]
 pub struct Offsets {
     pub symbols: u32,
     pub productions: u32,
@@ -77,14 +77,14 @@ pub struct Offsets {
 }
 
 // The left symbol of a production, and how many right symbols it has.
-#[derive(Clone, Copy)]
+#[derive(Clone, Copy, PartialEq, Eq)]
 pub struct Head {
     pub left: u16,
     pub n: u16,
 }
 
 // A record that was read, or the number of the rule that it breaks. An enum holds no array, so a production comes without its slots.
-#[derive(Clone, Copy)]
+#[derive(Clone, Copy, PartialEq, Eq)]
 pub enum Read {
     Symbol(Symbol),
     Production(Head),
@@ -94,14 +94,14 @@ pub enum Read {
 
 // The rule that is broken, by its number; where it is a rule of records, with the number of the first bad one, counted from 0 in its own
 // table.
-#[derive(Clone, Copy)]
+#[derive(Clone, Copy, PartialEq, Eq)]
 pub enum Broken {
     Rule(u8),
     Record(u8, u16),
 }
 
 // What a table is: good, or refused for the first rule that it breaks.
-#[derive(Clone, Copy)]
+#[derive(Clone, Copy, PartialEq, Eq)]
 pub enum Checked {
     Good,
     Refused(Broken),

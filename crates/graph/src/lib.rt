@@ -5,7 +5,7 @@ use grammar::NODES;
 
 // A path or a circle: its nodes, beside each 1 where the link that leaves it is an edge of the production and 0 where it is a subtree's pair,
 // and how many they are. The places beyond are 0.
-#[derive(Clone, Copy)]
+#[derive(Clone, Copy, PartialEq, Eq)]
 pub struct Trail {
     pub nodes: [u8; NODES],
     pub marks: [u8; NODES],
@@ -13,7 +13,7 @@ pub struct Trail {
 }
 
 // A node, and how many nodes a shortest path from it back to it has between.
-#[derive(Clone, Copy)]
+#[derive(Clone, Copy, PartialEq, Eq)]
 pub struct Nearest {
     pub start: usize,
     pub between: usize,

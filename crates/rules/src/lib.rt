@@ -7,7 +7,7 @@ use graph::Trail;
 // The most entries: what is lent beyond is never used.
 pub const MOST_ENTRIES: usize = 4096;
 
-#[derive(Clone, Copy)]
+#[derive(Clone, Copy, PartialEq, Eq)]
 pub enum Answer {
     Noncircular,
     // The production at the root of the shown tree.
@@ -20,7 +20,7 @@ pub enum Answer {
 
 // Where the answer is circular, `root` holds the entry numbers of the root's right symbols, and `circle` the circle of its compound graph;
 // elsewhere both hold 0.
-#[derive(Clone, Copy)]
+#[derive(Clone, Copy, PartialEq, Eq)]
 pub struct Report {
     pub answer: Answer,
     pub closures: u32,
@@ -31,7 +31,7 @@ pub struct Report {
 }
 
 // A symbol with a graph, made by a production over earlier entries, one for each right symbol; unused slots are 0.
-#[derive(Clone, Copy)]
+#[derive(Clone, Copy, PartialEq, Eq)]
 pub struct Entry {
     pub symbol: u16,
     pub graph: u64,
