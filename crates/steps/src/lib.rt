@@ -4,11 +4,64 @@
 
 ghost use Rattle.std.specs.Prelude.{◌≡◌, ◌+◌, ◌≤◌, min, length, take, drop};
 ghost use Rattle.std.proofs.lemmas.List.Edits.{sets};
-ghost use Rattle.steps.specs.Slices.{room_for, entry_in, put_in, slices};
+ghost use Rattle.steps.specs.Slices.{room_for, room_of, entry_in, put_in, slices};
+ghost use Rattle.steps.specs.Lent.{held, read, Lent};
 ghost use Rattle.steps.specs.Step.{goes_on, stops, seen_in, Judges, stores, entry_of, Tried};
 
 use grammar::SLOTS;
 use rules::{Answer, Entry, MOST_ENTRIES};
+
+// Entries in four parallel slices, as they are lent to be written: the caller's, and the C interface's, own form.
+#[derive(Drop)]
+pub struct Store<'a> {
+    pub symbols: &'a mut [u16],
+    pub graphs: &'a mut [u64],
+    pub productions: &'a mut [u16],
+    pub kids: &'a mut [u16],
+}
+
+// The same, to be read.
+#[derive(Clone, Copy)]
+pub struct Entries<'a> {
+    pub symbols: &'a [u16],
+    pub graphs: &'a [u64],
+    pub productions: &'a [u16],
+    pub kids: &'a [u16],
+}
+
+impl Store<'_> {
+    pub fn entries(&self) -> Entries<'_>
+        ensures { read result ≡ held self.now }
+    {
+        Entries {
+            symbols: &*self.symbols,
+            graphs: &*self.graphs,
+            productions: &*self.productions,
+            kids: &*self.kids,
+        }
+    }
+}
+
+impl Entries<'_> {
+    // For how many entries the slices have room.
+    pub fn room(self) -> usize
+        ensures { result ≡ room_of (read self.entry) }
+    {
+        room_of(
+            self.symbols.len(),
+            self.graphs.len(),
+            self.productions.len(),
+            self.kids.len(),
+        )
+    }
+
+    // The entry of a number; where the slices hold none, one of zeros.
+    pub fn entry(self, i: usize) -> Entry
+        ensures { result ≡ entry_in (read self.entry) i }
+    {
+        entry_of(self.symbols, self.graphs, self.productions, self.kids, i)
+    }
+}
 
 // Whether the passes go on, or with what answer they have stopped.
 #[derive(Clone, Copy)]
