@@ -13,22 +13,19 @@ use grammar::{ATTRIBUTES, EDGE_BYTES, NODES, SLOTS};
 pub const ATTRIBUTE_BITS: u64 = (1 << ATTRIBUTES) - 1;
 
 // The number of the node whose occurrence and attribute stand at `at`.
-fn node_at(run: &[u8], at: usize) -> usize
-    requires { at + 1 < length run.now }
-    ensures { result ≡ node attributes (node_in run.now at) }
+fn node_at(edge: &[u8; EDGE_BYTES], at: usize) -> usize
+    requires { at < 5 }
+    ensures { result ≡ node attributes (node_in edge.now at) }
 {
-    ATTRIBUTES * (run[at] as usize) + run[at + 1] as usize
+    ATTRIBUTES * usize::from(edge[at]) + usize::from(edge[at + 1])
 }
 
 // One edge more; nothing changes where there is no such node.
-fn add_edge(rows: &mut [u64], source: usize, target: usize)
-    requires { length rows.old ≡ most_nodes }
+fn add_edge(rows: &mut [u64; NODES], source: usize, target: usize)
     ensures { rows.new ≡ link source target rows.old }
 {
-    if source < NODES {
-        if target < NODES {
-            rows[source] = rows[source] | 1 << target;
-        }
+    if source < NODES && target < NODES {
+        rows[source] |= 1 << target;
     }
 }
 
@@ -36,11 +33,10 @@ fn add_edge(rows: &mut [u64], source: usize, target: usize)
 fn add_edges(rows: &mut [u64; NODES], run: &[u8])
     ensures { rows.new ≡ own attributes (edges_in run.now) rows.old }
 {
-    let count = run.len() / EDGE_BYTES;
-    for e in 0..count {
-        let at = EDGE_BYTES * e;
-        let source = node_at(run, at + 2);
-        let target = node_at(run, at + 4);
+    let (edges, _) = run.as_chunks::<EDGE_BYTES>();
+    for edge in edges {
+        let source = node_at(edge, 2);
+        let target = node_at(edge, 4);
         add_edge(rows, source, target);
     }
 }
@@ -55,8 +51,7 @@ pub fn own_rows(run: &[u8]) -> [u64; NODES]
 }
 
 // A subtree's pairs, joined in at its occurrence.
-fn place_in(rows: &mut [u64], graph: u64, occurrence: usize)
-    requires { length rows.old ≡ most_nodes }
+pub fn place(rows: &mut [u64; NODES], graph: u64, occurrence: usize)
     ensures { rows.new ≡ placed attributes occurrence graph rows.old }
 {
     if SLOTS < occurrence {
@@ -65,22 +60,15 @@ fn place_in(rows: &mut [u64], graph: u64, occurrence: usize)
     let base = ATTRIBUTES * occurrence;
     for a in 0..ATTRIBUTES {
         let pairs = (graph >> (ATTRIBUTES * a)) & ATTRIBUTE_BITS;
-        rows[base + a] = rows[base + a] | (pairs << base);
+        rows[base + a] |= pairs << base;
     }
-}
-
-pub fn place(rows: &mut [u64; NODES], graph: u64, occurrence: usize)
-    ensures { rows.new ≡ placed attributes occurrence graph rows.old }
-{
-    place_in(rows, graph, occurrence);
 }
 
 // The graph of a stored entry's number, and none where there is no such entry.
 fn graph_of(graphs: &[u64], number: u16) -> u64
     ensures { result ≡ get_or graphs.now number 0 }
 {
-    let i = number as usize;
-    if i < graphs.len() { graphs[i] } else { 0 }
+    graphs.get(usize::from(number)).copied().unwrap_or(0)
 }
 
 // The pairs of the first `count` of the picked entries, each at its occurrence. Occurrence 0 is the left symbol.
@@ -88,9 +76,9 @@ fn place_all(rows: &mut [u64; NODES], graphs: &[u64], picked: &[u16], count: usi
     ensures { rows.new
         ≡ placed_from attributes 1 (picked_graphs graphs.now count picked.now) rows.old }
 {
-    let most = numbers::smaller(count, picked.len());
-    for k in 0..most {
-        let pairs = graph_of(graphs, picked[k]);
+    let some = &picked[..count.min(picked.len())];
+    for (k, number) in some.iter().enumerate() {
+        let pairs = graph_of(graphs, *number);
         place(rows, pairs, k + 1);
     }
 }
