@@ -1,18 +1,18 @@
 // The closure of a compound graph, and what is read off it. Who closes a graph finds here too what makes its rows.
 #![tactic(auto)]
 
-ghost use Rattle.std.specs.Prelude.{◌≡◌, ◌*◌, ◌+◌, ◌<◌, ◌≤◌, min, length, take};
+ghost use Rattle.std.specs.Prelude.{◌≡◌, ◌*◌, ◌+◌, ◌<◌, min, map, length, take};
 ghost use Rattle.grammar.specs.Table.{attributes};
 ghost use Rattle.graph.specs.Rows.{through, has_circle, root_graph};
-ghost use Rattle.graph.specs.Parts.{most_nodes, map_first, targets_to, closed_first};
+ghost use Rattle.graph.specs.Parts.{most_nodes, targets_to, closed_first};
 ghost use Rattle.compounds.specs.Combination.{closed_in};
 
 use compounds::ATTRIBUTE_BITS;
 pub use compounds::{compound, own_rows, place};
-use grammar::{ATTRIBUTES, NODES, SLOTS};
+use grammar::{ATTRIBUTES, NODES, OCCURRENCES, SLOTS};
 
 // What one closure gives.
-#[derive(Clone, Copy)]
+#[derive(Clone, Copy, PartialEq, Eq)]
 pub struct Closed {
     pub circle: bool,
     pub graph: u64,
@@ -26,12 +26,12 @@ fn joined(k: usize, via: u64, row: u64) -> u64
     if (row >> k) & 1 == 1 { row | via } else { row }
 }
 
-// The step through node k, whose row is `via`, in the rows of the first m nodes.
-fn step_through(rows: &mut [u64], k: usize, via: u64, m: usize)
-    requires { (k < most_nodes) × (m ≤ length rows.old) }
-    ensures { rows.new ≡ map_first m (through k via) rows.old }
+// The step through node k, whose row is `via`, in all rows.
+fn step_through(rows: &mut [u64], k: usize, via: u64)
+    requires { k < most_nodes }
+    ensures { rows.new ≡ map (through k via) rows.old }
 {
-    for i in 0..m {
+    for i in 0..rows.len() {
         rows[i] = joined(k, via, rows[i]);
     }
 }
@@ -40,66 +40,45 @@ fn step_through(rows: &mut [u64], k: usize, via: u64, m: usize)
 fn nodes(occurrences: usize) -> usize
     ensures { result ≡ min (attributes * occurrences) most_nodes }
 {
-    if occurrences <= SLOTS {
-        ATTRIBUTES * occurrences
-    } else {
-        NODES
-    }
+    ATTRIBUTES * occurrences.min(OCCURRENCES)
 }
 
-// The nodes to which an edge of the first m rows leads, as the bits of one row.
-fn targets(rows: &[u64], m: usize) -> u64
-    requires { m ≤ length rows.now }
-    ensures { result ≡ targets_to m rows.now }
+// The nodes to which an edge of the rows leads, as the bits of one row.
+fn targets(rows: &[u64]) -> u64
+    ensures { result ≡ targets_to (length rows.now) rows.now }
 {
     let mut all: u64 = 0;
-    for i in 0..m {
-        all = all | rows[i];
+    for &row in rows {
+        all |= row;
     }
     all
 }
 
 // The closure of the nodes of the first occurrences. The step through a node that no edge leaves, or to which none leads, would change
 // nothing and is left out.
-fn close_in(rows: &mut [u64], occurrences: usize)
-    requires { length rows.old ≡ most_nodes }
+pub fn close(rows: &mut [u64; NODES], occurrences: usize)
     ensures { rows.new ≡ closed_first (attributes * occurrences) rows.old }
 {
     let m = nodes(occurrences);
-    let all = targets(rows, m);
+    let all = targets(&rows[..m]);
     for k in 0..m {
         let via = rows[k];
-        if via != 0 {
-            if (all >> k) & 1 == 1 {
-                step_through(rows, k, via, m);
-            }
+        if via != 0 && (all >> k) & 1 == 1 {
+            step_through(&mut rows[..m], k, via);
         }
     }
 }
 
-pub fn close(rows: &mut [u64; NODES], occurrences: usize)
-    ensures { rows.new ≡ closed_first (attributes * occurrences) rows.old }
-{
-    close_in(rows, occurrences);
-}
-
 // Whether a node of the first occurrences has an edge to itself.
-fn circle_in(rows: &[u64], occurrences: usize) -> bool
-    requires { length rows.now ≡ most_nodes }
+pub fn has_circle(rows: &[u64; NODES], occurrences: usize) -> bool
     ensures { result ≡ has_circle (take (attributes * occurrences) rows.now) }
 {
     let n = nodes(occurrences);
     let mut seen: u64 = 0;
-    for i in 0..n {
-        seen = seen | rows[i] >> i;
+    for (i, &row) in rows[..n].iter().enumerate() {
+        seen |= row >> i;
     }
     seen & 1 == 1
-}
-
-pub fn has_circle(rows: &[u64; NODES], occurrences: usize) -> bool
-    ensures { result ≡ has_circle (take (attributes * occurrences) rows.now) }
-{
-    circle_in(rows, occurrences)
 }
 
 // The pairs among the nodes of the left symbol.
@@ -107,8 +86,8 @@ pub fn root_graph(rows: &[u64; NODES]) -> u64
     ensures { result ≡ root_graph attributes rows.now }
 {
     let mut graph: u64 = 0;
-    for a in 0..ATTRIBUTES {
-        graph = graph | ((rows[a] & ATTRIBUTE_BITS) << (ATTRIBUTES * a));
+    for (a, &row) in rows[..ATTRIBUTES].iter().enumerate() {
+        graph |= (row & ATTRIBUTE_BITS) << (ATTRIBUTES * a);
     }
     graph
 }
@@ -117,7 +96,7 @@ pub fn root_graph(rows: &[u64; NODES]) -> u64
 fn occurrences_of(picked: &[u16], count: usize) -> usize
     ensures { result ≡ min count (length picked.now) + 1 }
 {
-    numbers::smaller(count, picked.len()) + 1
+    count.min(picked.len()) + 1
 }
 
 // One closure: a combination's compound graph in a table of its own, closed. Of more than seven picked entries the first seven count.
