@@ -13,6 +13,7 @@ use lib.Bits.{bit_or, or_lt}
 use lib.ListN.{length, get_or, set, length-set, get_or-eq_default}
 use lib.Pow.{pow-lt}
 use lib.Seq.{get_or-set_same, get_or-set_other, set_out, ext_get_or}
+use Rattle.std.proofs.Props.{props}
 use Rattle.numbers.specs.Number.{bit}
 use Rattle.numbers.proofs.Bits.{bit_of_or, bit_power, one_of, bit_zero, bit_lt, same_bit, same_bits}
 use Rattle.numbers.proofs.Decides.{Decides, both_decides, eq_decides, says}
@@ -30,6 +31,9 @@ Within A B = (s : ℕ) → In A s → In B s
 pub record IsSet (A : Symbols) : Type 0 where
   pub four : length A ≡ 4
   pub small : (k : ℕ) → get_or A k 0 < 2 ^ 64
+
+pub set_prop : (A : Symbols) → IsProp (IsSet A)
+set_prop A = hlevel props
 
 -- ---- the bits behind the test
 

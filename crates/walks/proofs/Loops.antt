@@ -10,7 +10,7 @@ use Rattle.parts.specs.Sets.{Symbols}
 use Rattle.parts.specs.Rule.{walk, grown, treed, begun, spread, reached}
 use Rattle.parts.proofs.Sets.{Within, IsSet, same_sets_lem}
 use Rattle.parts.proofs.Sizes.{size, size_most}
-use Rattle.parts.proofs.Rule.{reached_set, reached_treed, grown_set, grown_within, grown_done, spread_set, spread_more, spread_within, spread_done}
+use Rattle.parts.proofs.Rule.{reached_set, reached_treed, grown_within, grown_done, spread_more, spread_within, spread_done}
 use Rattle.walks.specs.Walk.{turned, Added}
 use Rattle.walks.proofs.Orders.{of_turned, in_turned}
 
@@ -24,11 +24,11 @@ module _ (g : Grammar) (up : Bool) (A B : Symbols) (more : Bool) (added : Added 
 
   -- ---- the symbols that have a finite tree
   module _ (i : IsSet A) (w : Within A (treed g)) (e : B ≡ walk grown (turned up g.productions) A) where
-    pub trees_kept : IsSet B × Within B (treed g)
+    pub trees_kept : Within B (treed g)
     trees_kept =
         let from = of_turned up g.productions in
         let to = in_turned up g.productions in
-        subst (λ C. IsSet C × Within C (treed g)) (sym e) (grown_set g qs from to A i, grown_within g qs from to A i w)
+        subst (λ C. Within C (treed g)) (sym e) (grown_within g qs from to A i w)
 
     pub trees_found : more ≡ false → B ≡ treed g
     trees_found f =
@@ -39,12 +39,11 @@ module _ (g : Grammar) (up : Bool) (A B : Symbols) (more : Bool) (added : Added 
   module _
       (T : Symbols) (i : IsSet A) (u : Within (begun T g.start) A) (w : Within A (reached g T))
       (e : B ≡ walk (spread T) (turned up g.productions) A) where
-    pub reached_kept : IsSet B × Within (begun T g.start) B × Within B (reached g T)
+    pub reached_kept : Within (begun T g.start) B × Within B (reached g T)
     reached_kept =
         let from = of_turned up g.productions in
         let to = in_turned up g.productions in
-        subst (λ C. IsSet C × Within (begun T g.start) C × Within C (reached g T)) (sym e) (
-          spread_set g qs from to T A i,
+        subst (λ C. Within (begun T g.start) C × Within C (reached g T)) (sym e) (
           (λ s h. spread_more g qs from to T A i s (u s h)),
           spread_within g qs from to T A i w,
         )

@@ -1,5 +1,7 @@
 -- The promise of each public function has one reading. Assumes nothing.
-use mathlib.Core.Path.{sym, ◌∙◌}
+use mathlib.Core.Path.{◌≡◌, sym, subst, ◌∙◌}
+use Rattle.parts.proofs.Sets.{IsSet, set_prop}
+use Rattle.walks.specs.declared.SymbolSet.{SymbolSet}
 use Rattle.numbers.proofs.Reading.{OneResult}
 use Rattle.walks.proofs.treed_of.Kinds as treed_of_kinds
 use Rattle.walks.proofs.treed_of.Reads as treed_of_reads
@@ -8,11 +10,18 @@ use Rattle.walks.proofs.reached_of.Reads as reached_of_reads
 use Rattle.walks.proofs.takes_part.Kinds as takes_part_kinds
 use Rattle.walks.proofs.takes_part.Reads as takes_part_reads
 
+-- a set is told by its numbers
+same_words : {A B : SymbolSet} → A.words ≡ B.words → A ≡ B
+same_words {A} {B} e =
+    subst (λ ws. (j : IsSet ws) → A ≡ record { words = ws; is_set = j }) e
+    (λ j i. record { words = A.words; is_set = set_prop A.words A.is_set j i })
+    B.is_set
+
 pub one_reading_treed_of : OneResult 1 treed_of_kinds.ps treed_of_kinds.r treed_of_reads.Post
-one_reading_treed_of κs a x y s t p q = p ∙ sym q
+one_reading_treed_of κs a x y s t p q = same_words (p ∙ sym q)
 
 pub one_reading_reached_of : OneResult 2 reached_of_kinds.ps reached_of_kinds.r reached_of_reads.Post
-one_reading_reached_of κs a x y s t p q = p ∙ sym q
+one_reading_reached_of κs a x y s t p q = same_words (p ∙ sym q)
 
 pub one_reading_takes_part : OneResult 2 takes_part_kinds.ps takes_part_kinds.r takes_part_reads.Post
 one_reading_takes_part κs a x y s t p q = p ∙ sym q

@@ -4,15 +4,16 @@ use mathlib.Core.Bool.{Bool, true, false, true≢false}
 use mathlib.Core.List.Memᴰ
 use mathlib.Core.List.{List, [], ◌∷◌}
 use mathlib.Core.Logic.{⊎_elim}
-use Prim.Native.Nat.{ℕ, zero, suc, ◌+◌, ◌/◌, ◌%◌, ◌^◌, ◌≤◌, ◌<◌}
+use Prim.Native.Nat.{ℕ, ◌+◌, ◌*◌, ◌/◌, ◌%◌, ◌^◌, ◌≤◌, ◌<◌}
 use native.Mathlib.Numerals.{add-one}
 use native.Mathlib.Omega.{arith}
 use borrow.Author.Tests.{ltb-true, ltb-false}
-use lib.Bits.{bit_and, and_mask}
+use lib.Bits.{bit_and, bit_or, and_mask}
 use lib.Dec.{eqb, ltb}
-use lib.ListN.{length, get_or, drop, drop_of_length-le}
-use lib.Seq.{drop-cons, ext_get_or}
+use lib.ListN.{length, get_or, set, drop, drop_of_length-le}
+use lib.Seq.{drop-cons}
 use Rattle.numbers.specs.Number.{le2}
+use Rattle.numbers.proofs.Bits.{power_fits}
 use Rattle.numbers.specs.Lists.{both, every}
 use Rattle.grammar.specs.declared.Production.{Production}
 use Rattle.grammar.specs.Grammar.{rights}
@@ -30,6 +31,11 @@ pub has_there : (A : Symbols) (s : ℕ) → eqb (bit_and (get_or A (s / 64) 0 / 
 unfolding has
 has_there A s = ap (λ x. eqb x 1) (and_mask (get_or A (s / 64) 0 / 2 ^ (s % 64)) 1)
 
+pub add_there : (A : Symbols) (s : ℕ)
+    → set A (s / 64) (bit_or (get_or A (s / 64) 0) (1 * 2 ^ (s % 64) % 18446744073709551616)) ≡ add A s
+unfolding add
+add_there A s = ap (λ x. set A (s / 64) (bit_or (get_or A (s / 64) 0) x)) (power_fits 64 (s % 64) (omega arith))
+
 -- ---- the symbols of a list, from k on
 
 module _ (ss : List ℕ) (k : ℕ) where
@@ -40,20 +46,6 @@ module _ (ss : List ℕ) (k : ℕ) where
   pub all_done : (A : Symbols) → length ss ≤ k → add_all A (drop k ss) ≡ A
   unfolding add_all
   all_done A h = ap (add_all A) (drop_of_length-le ss h)
-
--- ---- two sets, number by number
-pub four_same :
-    (A B : Symbols) → length A ≡ 4 → length B ≡ 4
-    → get_or A 0 0 ≡ get_or B 0 0 → get_or A 1 0 ≡ get_or B 1 0 → get_or A 2 0 ≡ get_or B 2 0 → get_or A 3 0 ≡ get_or B 3 0
-    → A ≡ B
-four_same A B f g a b c d = ext_get_or 0 A B (f ∙ sym g) at
-  where
-    at : (i : ℕ) → i < length A → get_or A i 0 ≡ get_or B i 0
-    at zero l = a
-    at (suc zero) l = b
-    at (suc (suc zero)) l = c
-    at (suc (suc (suc zero))) l = d
-    at (suc (suc (suc (suc i)))) l = absurd (omega arith)
 
 -- ---- whether something was added
 

@@ -1,9 +1,8 @@
 -- The order of a walk, and what it says of the set that it leaves. Only promises of private functions speak of it. Assumes nothing.
-use Rattle.std.specs.Prelude.{Bool, true, false, List, reverse, ◌≡◌, ℕ, ◌+◌, ◌≤◌, ◌<◌, length}
+use Rattle.std.specs.Prelude.{Bool, true, false, List, reverse, ◌≡◌, ℕ, ◌≤◌, ◌<◌, length}
 use Rattle.grammar.specs.declared.Production.{Production}
 use Rattle.grammar.specs.Table.{at_edges}
 use Rattle.parts.specs.Sets.{Symbols}
-use Rattle.parts.proofs.Sets.{IsSet}
 use Rattle.parts.proofs.Sizes.{size}
 
 -- from the first to the last, or from the last to the first
@@ -14,11 +13,6 @@ turned false ps = reverse ps
 -- the bytes have the productions of the table
 abbrev pub Whole : List ℕ → Type 0
 Whole bs = at_edges bs ≤ length bs
-
--- a whole production stands at a place of the bytes, and A is a set
-pub record AtProduction (bs : List ℕ) (at : ℕ) (A : Symbols) : Type 0 where
-  pub there : at + 18 ≤ length bs
-  pub is_set : IsSet A
 
 -- A became B, and the answer says whether something was added
 pub record Added (A B : Symbols) (more : Bool) : Type 0 where

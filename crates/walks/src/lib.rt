@@ -9,37 +9,48 @@ ghost use Rattle.grammar.specs.Table.{at_edges, production_in, grammar_of};
 ghost use Rattle.parts.specs.Sets as sets;
 ghost use Rattle.parts.specs.Rule as rule;
 ghost use Rattle.parts.proofs.Sets.{IsSet};
-ghost use Rattle.walks.specs.Walk.{turned, Whole, AtProduction, Added};
+ghost use Rattle.walks.specs.Walk.{turned, Whole, Added};
 
 use grammar::{MOST_SYMBOLS, PRODUCTION_BYTES, Production, SLOTS};
 use numbers::{smaller, wide};
 use parts::WORDS;
 use tables::{header_of, offsets_of};
 
-// ---- sets of symbols
-
-fn is_in(set: &[u64], s: u16) -> bool
-    requires { length set.now ≡ 4 }
-    ensures { result ≡ sets.has set.now s }
-{
-    if MOST_SYMBOLS <= s {
-        return false;
-    }
-    let k = s as usize;
-    (set[k / 64] >> (k % 64)) & 1 == 1
+// A set of symbols, with a bit for each of the 256 that there may be.
+#[derive(Clone, Copy, PartialEq, Eq)]
+pub struct SymbolSet {
+    pub words: [u64; WORDS],
+    pub ghost is_set: { IsSet words },
 }
 
-// Whether there may be such a symbol; else nothing changes.
-fn add(set: &mut [u64], s: u16) -> bool
-    requires { IsSet set.old }
-    ensures { (set.new ≡ sets.add set.old s) × (result ≡ ltb s 256) }
-{
-    if MOST_SYMBOLS <= s {
-        return false;
+impl SymbolSet {
+    fn empty() -> Self
+        ensures { result.words ≡ sets.none }
+    {
+        SymbolSet { words: [0; WORDS] }
     }
-    let k = s as usize;
-    set[k / 64] = set[k / 64] | 1 << (k % 64);
-    true
+
+    fn has(&self, s: u16) -> bool
+        ensures { result ≡ sets.has self.now.words s }
+    {
+        if MOST_SYMBOLS <= s {
+            return false;
+        }
+        let k = s as usize;
+        (self.words[k / 64] >> (k % 64)) & 1 == 1
+    }
+
+    // Whether there may be such a symbol; else nothing changes.
+    fn add(&mut self, s: u16) -> bool
+        ensures { (self.new.words ≡ sets.add self.old.words s) × (result ≡ ltb s 256) }
+    {
+        if MOST_SYMBOLS <= s {
+            return false;
+        }
+        let k = s as usize;
+        self.words[k / 64] |= 1 << (k % 64);
+        true
+    }
 }
 
 // ---- the production record at `at`: it is read as far as it is needed
@@ -68,15 +79,15 @@ fn right_at(table: &[u8], at: usize, k: usize) -> u16
 }
 
 // Each right symbol is in the set.
-fn all_in(table: &[u8], at: usize, set: &[u64]) -> bool
-    requires { (at + 18 ≤ length table.now) × (length set.now ≡ 4) }
-    ensures { result ≡ every (sets.has set.now) (rights (production_in table.now at)) }
+fn all_in(table: &[u8], at: usize, set: &SymbolSet) -> bool
+    requires { at + 18 ≤ length table.now }
+    ensures { result ≡ every (sets.has set.now.words) (rights (production_in table.now at)) }
 {
     let n = count_at(table, at);
     let mut k = 0;
     while k < n {
         let right = right_at(table, at, k);
-        if !is_in(set, right) {
+        if !set.has(right) {
             return false;
         }
         k += 1;
@@ -85,43 +96,43 @@ fn all_in(table: &[u8], at: usize, set: &[u64]) -> bool
 }
 
 // The right symbols are added.
-fn add_all(table: &[u8], at: usize, set: &mut [u64])
-    requires { AtProduction table.now at set.old }
-    ensures { set.new ≡ sets.add_all set.old (rights (production_in table.now at)) }
+fn add_all(table: &[u8], at: usize, set: &mut SymbolSet)
+    requires { at + 18 ≤ length table.now }
+    ensures { set.new.words ≡ sets.add_all set.old.words (rights (production_in table.now at)) }
 {
     let n = count_at(table, at);
     let mut k = 0;
     while k < n {
         let right = right_at(table, at, k);
-        add(set, right);
+        set.add(right);
         k += 1;
     }
 }
 
 // A left symbol that has a finite tree already needs no second.
-fn grow(table: &[u8], at: usize, set: &mut [u64]) -> bool
-    requires { AtProduction table.now at set.old }
-    ensures { (set.new ≡ rule.grown set.old (production_in table.now at))
-        × Added set.old set.new result }
+fn grow(table: &[u8], at: usize, set: &mut SymbolSet) -> bool
+    requires { at + 18 ≤ length table.now }
+    ensures { (set.new.words ≡ rule.grown set.old.words (production_in table.now at))
+        × Added set.old.words set.new.words result }
 {
     let left = two_in(table, at);
-    if is_in(set, left) {
+    if set.has(left) {
         return false;
     }
     if !all_in(table, at, set) {
         return false;
     }
-    add(set, left)
+    set.add(left)
 }
 
 // Right symbols that are all reached already are added to no purpose.
-fn spread(table: &[u8], at: usize, trees: &[u64], set: &mut [u64]) -> bool
-    requires { AtProduction table.now at set.old × (length trees.now ≡ 4) }
-    ensures { (set.new ≡ rule.spread trees.now set.old (production_in table.now at))
-        × Added set.old set.new result }
+fn spread(table: &[u8], at: usize, trees: &SymbolSet, set: &mut SymbolSet) -> bool
+    requires { at + 18 ≤ length table.now }
+    ensures { (set.new.words ≡ rule.spread trees.now.words set.old.words (production_in table.now at))
+        × Added set.old.words set.new.words result }
 {
     let left = two_in(table, at);
-    if !is_in(set, left) {
+    if !set.has(left) {
         return false;
     }
     if all_in(table, at, set) {
@@ -144,10 +155,10 @@ fn number_at(i: usize, n: usize, up: bool) -> usize
     if up { i } else { n - (i + 1) }
 }
 
-fn grow_walk(table: &[u8], set: &mut [u64], up: bool) -> bool
-    requires { Whole table.now × IsSet set.old }
-    ensures { (set.new ≡ rule.walk rule.grown (turned up (grammar_of table.now).productions) set.old)
-        × Added set.old set.new result }
+fn grow_walk(table: &[u8], set: &mut SymbolSet, up: bool) -> bool
+    requires { Whole table.now }
+    ensures { (set.new.words ≡ rule.walk rule.grown (turned up (grammar_of table.now).productions) set.old.words)
+        × Added set.old.words set.new.words result }
 {
     let n = wide(header_of(table).productions);
     let first = offsets_of(table).productions as usize;
@@ -163,11 +174,11 @@ fn grow_walk(table: &[u8], set: &mut [u64], up: bool) -> bool
     more
 }
 
-fn spread_walk(table: &[u8], trees: &[u64], set: &mut [u64], up: bool) -> bool
-    requires { Whole table.now × IsSet set.old × (length trees.now ≡ 4) }
-    ensures { (set.new
-        ≡ rule.walk (rule.spread trees.now) (turned up (grammar_of table.now).productions) set.old)
-        × Added set.old set.new result }
+fn spread_walk(table: &[u8], trees: &SymbolSet, set: &mut SymbolSet, up: bool) -> bool
+    requires { Whole table.now }
+    ensures { (set.new.words
+        ≡ rule.walk (rule.spread trees.now.words) (turned up (grammar_of table.now).productions) set.old.words)
+        × Added set.old.words set.new.words result }
 {
     let n = wide(header_of(table).productions);
     let first = offsets_of(table).productions as usize;
@@ -184,11 +195,11 @@ fn spread_walk(table: &[u8], trees: &[u64], set: &mut [u64], up: bool) -> bool
 }
 
 // The symbols that have a finite tree. One walk goes up and the next down, so that the order of the table matters little.
-fn with_trees(table: &[u8]) -> [u64; WORDS]
+fn with_trees(table: &[u8]) -> SymbolSet
     requires { Whole table.now }
-    ensures { result ≡ rule.treed (grammar_of table.now) }
+    ensures { result.words ≡ rule.treed (grammar_of table.now) }
 {
-    let mut set = [0u64; WORDS];
+    let mut set = SymbolSet::empty();
     let mut up = true;
     while grow_walk(table, &mut set, up) {
         up = !up;
@@ -197,41 +208,24 @@ fn with_trees(table: &[u8]) -> [u64; WORDS]
 }
 
 // The start symbol, if it has a finite tree.
-fn begin(trees: &[u64], start: u16) -> [u64; WORDS]
-    requires { length trees.now ≡ 4 }
-    ensures { result ≡ rule.begun trees.now start }
+fn begin(trees: &SymbolSet, start: u16) -> SymbolSet
+    ensures { result.words ≡ rule.begun trees.now.words start }
 {
-    let mut set = [0u64; WORDS];
-    if is_in(trees, start) {
-        add(&mut set, start);
+    let mut set = SymbolSet::empty();
+    if trees.has(start) {
+        set.add(start);
     }
     set
 }
 
-fn same(a: &[u64], b: &[u64]) -> bool
-    requires { (length a.now ≡ 4) × (length b.now ≡ 4) }
-    ensures { result ≡ true → a.now ≡ b.now }
-{
-    if a[0] != b[0] {
-        return false;
-    }
-    if a[1] != b[1] {
-        return false;
-    }
-    if a[2] != b[2] {
-        return false;
-    }
-    a[3] == b[3]
-}
-
 // The symbols that are reached, where `trees` have a finite tree. When all of these are reached, nothing is left to add.
-fn from_start(table: &[u8], trees: &[u64]) -> [u64; WORDS]
-    requires { Whole table.now × (length trees.now ≡ 4) }
-    ensures { result ≡ rule.reached (grammar_of table.now) trees.now }
+fn from_start(table: &[u8], trees: &SymbolSet) -> SymbolSet
+    requires { Whole table.now }
+    ensures { result.words ≡ rule.reached (grammar_of table.now) trees.now.words }
 {
     let mut set = begin(trees, header_of(table).start);
     let mut up = true;
-    while !same(&set, trees) {
+    while set != *trees {
         if !spread_walk(table, trees, &mut set, up) {
             return set;
         }
@@ -249,36 +243,35 @@ fn is_whole(table: &[u8]) -> bool
 }
 
 // The symbols that have a finite tree.
-pub fn treed_of(table: &[u8]) -> [u64; WORDS]
-    ensures { result ≡ rule.if_whole table.now (rule.treed (grammar_of table.now)) }
+pub fn treed_of(table: &[u8]) -> SymbolSet
+    ensures { result.words ≡ rule.if_whole table.now (rule.treed (grammar_of table.now)) }
 {
     if is_whole(table) {
         return with_trees(table);
     }
-    [0u64; WORDS]
+    SymbolSet::empty()
 }
 
 // The symbols that are reached from the start symbol, where those of `treed` have a finite tree.
-pub fn reached_of(table: &[u8], treed: &[u64; WORDS]) -> [u64; WORDS]
-    ensures { result ≡ rule.if_whole table.now (rule.reached (grammar_of table.now) treed.now) }
+pub fn reached_of(table: &[u8], treed: &SymbolSet) -> SymbolSet
+    ensures { result.words ≡ rule.if_whole table.now (rule.reached (grammar_of table.now) treed.now.words) }
 {
     if is_whole(table) {
         return from_start(table, treed);
     }
-    [0u64; WORDS]
+    SymbolSet::empty()
 }
 
 // ---- one production
 
 // Each of the first n slots, of which there are seven, is in the set.
-fn all_of(slots: [u16; SLOTS], n: usize, set: &[u64]) -> bool
-    requires { length set.now ≡ 4 }
-    ensures { result ≡ every (sets.has set.now) (take n slots) }
+fn all_of(slots: [u16; SLOTS], n: usize, set: &SymbolSet) -> bool
+    ensures { result ≡ every (sets.has set.now.words) (take n slots) }
 {
     let count = smaller(n, SLOTS);
     let mut k = 0;
     while k < count {
-        if !is_in(set, slots[k]) {
+        if !set.has(slots[k]) {
             return false;
         }
         k += 1;
@@ -287,10 +280,10 @@ fn all_of(slots: [u16; SLOTS], n: usize, set: &[u64]) -> bool
 }
 
 // Whether a production takes part, by the two sets.
-pub fn takes_part(production: Production, treed: &[u64; WORDS], reached: &[u64; WORDS]) -> bool
-    ensures { result ≡ rule.takes_part treed.now reached.now production }
+pub fn takes_part(production: Production, treed: &SymbolSet, reached: &SymbolSet) -> bool
+    ensures { result ≡ rule.takes_part treed.now.words reached.now.words production }
 {
-    if !is_in(reached, production.left) {
+    if !reached.has(production.left) {
         return false;
     }
     let slots = production.slots;

@@ -6,12 +6,11 @@ use lib.ListN.{drop}
 use Rattle.grammar.specs.Grammar.{rights}
 use Rattle.grammar.specs.Table.{production_in}
 use Rattle.parts.specs.Sets.{add_all}
-use Rattle.parts.proofs.Sets.{IsSet}
 use Rattle.walks.proofs.add_all.Given as goal
 
 abbrev pub invariant-loop-k : goal.invariant-loop-k
 invariant-loop-k l =
-    (l.k ≤ l.n) × IsSet l.set × (add_all l.set (drop l.k (rights (production_in l.table l.at))) ≡ add_all l.initial.set (rights (production_in l.table l.at)))
+    (l.k ≤ l.n) × (add_all l.set.words (drop l.k (rights (production_in l.table l.at))) ≡ add_all l.initial.set.words (rights (production_in l.table l.at)))
 
 abbrev pub decreases-loop-k : goal.decreases-loop-k
 decreases-loop-k l = l.n - l.k

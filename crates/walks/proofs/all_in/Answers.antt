@@ -11,27 +11,27 @@ use Rattle.walks.proofs.all_in.Goals as goal
 pub loop-k-init : goal.loop-k-init
 loop-k-init c = (search rules, refl)
 
-pub returns-then-not-is_in : goal.returns-then-not-is_in
-returns-then-not-is_in c =
+pub returns-then-not-has : goal.returns-then-not-has
+returns-then-not-has c =
     let a = c.args in
     let l = rights (production_in a.table.now a.at) in
     let many = c.count_at-n.ensures in
-    let f = ap (has a.set.now) (sym c.right_at-right.ensures) ∙ sym c.is_in.ensures
-    ∙ c.if-not-is_in.true in
-    sym (sym c.loop-k.invariant.1 ∙ fails_at (has a.set.now) l 0 c.loop-k.k (omega arith) f)
+    let f = ap (has a.set.now.words) (sym c.right_at-right.ensures) ∙ sym c.has.ensures
+    ∙ c.if-not-has.true in
+    sym (sym c.loop-k.invariant.1 ∙ fails_at (has a.set.now.words) l 0 c.loop-k.k (omega arith) f)
 
 pub loop-k-preserved : goal.loop-k-preserved
 loop-k-preserved c =
     let a = c.args in
     let l = rights (production_in a.table.now a.at) in
     let many = c.count_at-n.ensures in
-    let f = ap (has a.set.now) (sym c.right_at-right.ensures) ∙ sym c.is_in.ensures
-    ∙ c.if-not-is_in.false in
-    (omega arith, passes_at (has a.set.now) l 0 c.loop-k.k (omega arith) f ∙ c.loop-k.invariant.1)
+    let f = ap (has a.set.now.words) (sym c.right_at-right.ensures) ∙ sym c.has.ensures
+    ∙ c.if-not-has.false in
+    (omega arith, passes_at (has a.set.now.words) l 0 c.loop-k.k (omega arith) f ∙ c.loop-k.invariant.1)
 
 pub returns : goal.returns
 returns c =
     let a = c.args in
     let l = rights (production_in a.table.now a.at) in
     let many = c.count_at-n.ensures in
-    sym (sym c.loop-k.invariant.1 ∙ passes_all (has a.set.now) l 0 c.loop-k.k (omega arith))
+    sym (sym c.loop-k.invariant.1 ∙ passes_all (has a.set.now.words) l 0 c.loop-k.k (omega arith))

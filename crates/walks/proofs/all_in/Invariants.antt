@@ -10,7 +10,7 @@ use Rattle.walks.proofs.all_in.Given as goal
 
 abbrev pub invariant-loop-k : goal.invariant-loop-k
 invariant-loop-k l =
-    (l.k ≤ l.n) × (every (has l.set) (drop l.k (rights (production_in l.table l.at))) ≡ every (has l.set) (rights (production_in l.table l.at)))
+    (l.k ≤ l.n) × (every (has l.set.words) (drop l.k (rights (production_in l.table l.at))) ≡ every (has l.set.words) (rights (production_in l.table l.at)))
 
 abbrev pub decreases-loop-k : goal.decreases-loop-k
 decreases-loop-k l = l.n - l.k

@@ -19,31 +19,31 @@ loop-k-init c =
       search rules,
       omega (arith, c.smaller-count.ensures),
       length-take count a.slots ∙ omega (arith, c.smaller-count.ensures),
-      ap (every (has a.set.now)) (take_clipped a.n count a.slots (c.smaller-count.ensures ∙ ap (min a.n) (sym seven))),
+      ap (every (has a.set.now.words)) (take_clipped a.n count a.slots (c.smaller-count.ensures ∙ ap (min a.n) (sym seven))),
     )
 
-pub returns-then-not-is_in : goal.returns-then-not-is_in
-returns-then-not-is_in c =
+pub returns-then-not-has : goal.returns-then-not-has
+returns-then-not-has c =
     let a = c.args in
     let count = c.smaller-count.result in
-    let f = ap (has a.set.now) (get_or-take count a.slots c.loop-k.k 0 (omega arith)) ∙ sym c.is_in.ensures
-    ∙ c.if-not-is_in.true in
-    sym (sym c.loop-k.invariant.3 ∙ fails_at (has a.set.now) (take count a.slots) 0 c.loop-k.k (omega (arith, c.loop-k.invariant.2)) f)
+    let f = ap (has a.set.now.words) (get_or-take count a.slots c.loop-k.k 0 (omega arith)) ∙ sym c.has.ensures
+    ∙ c.if-not-has.true in
+    sym (sym c.loop-k.invariant.3 ∙ fails_at (has a.set.now.words) (take count a.slots) 0 c.loop-k.k (omega (arith, c.loop-k.invariant.2)) f)
 
 pub loop-k-preserved : goal.loop-k-preserved
 loop-k-preserved c =
     let a = c.args in
     let count = c.smaller-count.result in
-    let f = ap (has a.set.now) (get_or-take count a.slots c.loop-k.k 0 (omega arith)) ∙ sym c.is_in.ensures
-    ∙ c.if-not-is_in.false in (
+    let f = ap (has a.set.now.words) (get_or-take count a.slots c.loop-k.k 0 (omega arith)) ∙ sym c.has.ensures
+    ∙ c.if-not-has.false in (
       omega arith,
       c.loop-k.invariant.1,
       c.loop-k.invariant.2,
-      passes_at (has a.set.now) (take count a.slots) 0 c.loop-k.k (omega (arith, c.loop-k.invariant.2)) f ∙ c.loop-k.invariant.3,
+      passes_at (has a.set.now.words) (take count a.slots) 0 c.loop-k.k (omega (arith, c.loop-k.invariant.2)) f ∙ c.loop-k.invariant.3,
     )
 
 pub returns : goal.returns
 returns c =
     let a = c.args in
     let l = take c.smaller-count.result a.slots in
-    sym (sym c.loop-k.invariant.3 ∙ passes_all (has a.set.now) l 0 c.loop-k.k (omega (arith, c.loop-k.invariant.2)))
+    sym (sym c.loop-k.invariant.3 ∙ passes_all (has a.set.now.words) l 0 c.loop-k.k (omega (arith, c.loop-k.invariant.2)))

@@ -9,7 +9,7 @@ use Rattle.walks.proofs.all_of.Given as goal
 abbrev pub invariant-loop-k : goal.invariant-loop-k
 invariant-loop-k l =
     (l.k ≤ l.count) × (l.count ≤ 7) × (length (take l.count l.slots) ≡ l.count)
-    × (every (has l.set) (drop l.k (take l.count l.slots)) ≡ every (has l.set) (take l.n l.slots))
+    × (every (has l.set.words) (drop l.k (take l.count l.slots)) ≡ every (has l.set.words) (take l.n l.slots))
 
 abbrev pub decreases-loop-k : goal.decreases-loop-k
 decreases-loop-k l = l.count - l.k

@@ -1,23 +1,19 @@
 -- `walks::begin` meets its contract. Assumes nothing.
-use mathlib.Core.Path.{sym, ◌∙◌}
+use mathlib.Core.Path.{sym, ap, ◌∙◌}
 use mathlib.Core.List.{[], ◌∷◌}
-use Rattle.parts.specs.Sets.{none, add_all}
+use Rattle.parts.specs.Sets.{none, add, add_all}
 use Rattle.parts.specs.Rule.{begun}
-use Rattle.parts.proofs.Sets.{none_set}
 use Rattle.walks.proofs.Steps.{if_yes, if_no}
 use Rattle.walks.proofs.begin.Goals as goal
 
-pub add-requires : goal.add-requires
-add-requires c = none_set
-
-pub returns-then-is_in : goal.returns-then-is_in
+pub returns-then-has : goal.returns-then-has
 unfolding begun add_all
-returns-then-is_in c =
+returns-then-has c =
     let a = c.args in
-    c.add.ensures.0 ∙ if_yes none (a.start ∷ []) (sym c.is_in.ensures ∙ c.if-is_in.true)
+    c.add.ensures.0 ∙ ap (λ A. add A a.start) c.empty-set.ensures ∙ if_yes none (a.start ∷ []) (sym c.has.ensures ∙ c.if-has.true)
 
-pub returns-else-is_in : goal.returns-else-is_in
+pub returns-else-has : goal.returns-else-has
 unfolding begun
-returns-else-is_in c =
+returns-else-has c =
     let a = c.args in
-    if_no none (a.start ∷ []) (sym c.is_in.ensures ∙ c.if-is_in.false)
+    c.empty-set.ensures ∙ if_no none (a.start ∷ []) (sym c.has.ensures ∙ c.if-has.false)

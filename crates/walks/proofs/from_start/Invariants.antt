@@ -3,13 +3,13 @@
 use Prim.Native.Nat.{◌-◌}
 use Rattle.grammar.specs.Table.{grammar_of}
 use Rattle.parts.specs.Rule.{begun, reached}
-use Rattle.parts.proofs.Sets.{Within, IsSet}
+use Rattle.parts.proofs.Sets.{Within}
 use Rattle.parts.proofs.Sizes.{size}
 use Rattle.walks.proofs.from_start.Given as goal
 
 abbrev pub invariant-loop-set : goal.invariant-loop-set
 invariant-loop-set l =
-    IsSet l.set × Within (begun l.trees (grammar_of l.table).start) l.set × Within l.set (reached (grammar_of l.table) l.trees)
+    Within (begun l.trees.words (grammar_of l.table).start) l.set.words × Within l.set.words (reached (grammar_of l.table) l.trees.words)
 
 abbrev pub decreases-loop-set : goal.decreases-loop-set
-decreases-loop-set l = 256 - size l.set
+decreases-loop-set l = 256 - size l.set.words

@@ -5,7 +5,7 @@ use native.Mathlib.Omega.{arith}
 use borrow.Author.Rules.{rules}
 use Rattle.parts.specs.Rule.{grown}
 use Rattle.walks.specs.Walk.{Added}
-use Rattle.walks.proofs.Steps.{added_nothing, added_more, added_same, grown_is}
+use Rattle.walks.proofs.Steps.{added_nothing, added_more, added_same}
 use Rattle.walks.proofs.Orders.{walk_next, walk_done}
 use Rattle.walks.proofs.grow_walk.Goals as goal
 
@@ -15,16 +15,14 @@ loop-i-init c =
       search rules,
       c.wide-n.ensures ∙ ap (λ x. x.productions) h,
       ap (λ x. x.productions) c.offsets_of-first.ensures,
-      c.requires.1,
       refl,
-      added_nothing c.args.set.now,
+      added_nothing c.args.set.now.words,
     )
 
 pub grow-requires : goal.grow-requires
 grow-requires c =
     let inv = c.loop-i.invariant in
-    let whole = c.requires.0 in
-    record { there = omega (arith, inv.1, inv.2, whole, c.number_at.ensures.1); is_set = inv.3 }
+    omega (arith, inv.1, inv.2, c.requires, c.number_at.ensures.1)
 
 pub loop-i-preserved-then-grow : goal.loop-i-preserved-then-grow
 loop-i-preserved-then-grow c =
@@ -34,12 +32,11 @@ loop-i-preserved-then-grow c =
       omega arith,
       inv.1,
       inv.2,
-      grown_is c.loop-i.set _ inv.3 step.ensures.0,
-      walk_next grown a.table.now a.up c.loop-i.i c.loop-i.set _ _ _ c.number_at.result
+      walk_next grown a.table.now a.up c.loop-i.i c.loop-i.set.words _ _ _ c.number_at.result
           (omega arith) inv.1 inv.2 c.number_at.ensures step.ensures.0
-          ∙ inv.4,
-      added_more a.set.now c.loop-i.set _ c.loop-i.more inv.5
-          (subst (Added c.loop-i.set _) c.if-grow.true step.ensures.1),
+          ∙ inv.3,
+      added_more a.set.now.words c.loop-i.set.words _ c.loop-i.more inv.4
+          (subst (Added c.loop-i.set.words _) c.if-grow.true step.ensures.1),
     )
 
 pub loop-i-preserved : goal.loop-i-preserved
@@ -50,17 +47,16 @@ loop-i-preserved c =
       omega arith,
       inv.1,
       inv.2,
-      grown_is c.loop-i.set _ inv.3 step.ensures.0,
-      walk_next grown a.table.now a.up c.loop-i.i c.loop-i.set _ _ _ c.number_at.result
+      walk_next grown a.table.now a.up c.loop-i.i c.loop-i.set.words _ _ _ c.number_at.result
           (omega arith) inv.1 inv.2 c.number_at.ensures step.ensures.0
-          ∙ inv.4,
-      added_same a.set.now c.loop-i.set _ c.loop-i.more inv.5
-          (subst (Added c.loop-i.set _) c.if-grow.false step.ensures.1),
+          ∙ inv.3,
+      added_same a.set.now.words c.loop-i.set.words _ c.loop-i.more inv.4
+          (subst (Added c.loop-i.set.words _) c.if-grow.false step.ensures.1),
     )
 
 pub returns : goal.returns
 returns c =
     let a = c.args in
     let inv = c.loop-i.invariant in
-    let e = sym (walk_done grown a.table.now a.up c.loop-i.i c.loop-i.set _ inv.1 (omega arith)) ∙ inv.4 in
-    (e, inv.5)
+    let e = sym (walk_done grown a.table.now a.up c.loop-i.i c.loop-i.set.words _ inv.1 (omega arith)) ∙ inv.3 in
+    (e, inv.4)

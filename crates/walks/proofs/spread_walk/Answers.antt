@@ -5,7 +5,7 @@ use native.Mathlib.Omega.{arith}
 use borrow.Author.Rules.{rules}
 use Rattle.parts.specs.Rule.{spread}
 use Rattle.walks.specs.Walk.{Added}
-use Rattle.walks.proofs.Steps.{added_nothing, added_more, added_same, spread_is}
+use Rattle.walks.proofs.Steps.{added_nothing, added_more, added_same}
 use Rattle.walks.proofs.Orders.{walk_next, walk_done}
 use Rattle.walks.proofs.spread_walk.Goals as goal
 
@@ -15,17 +15,14 @@ loop-i-init c =
       search rules,
       c.wide-n.ensures ∙ ap (λ x. x.productions) h,
       ap (λ x. x.productions) c.offsets_of-first.ensures,
-      c.requires.1,
       refl,
-      added_nothing c.args.set.now,
+      added_nothing c.args.set.now.words,
     )
 
 pub spread-requires : goal.spread-requires
 spread-requires c =
-    let inv = c.loop-i.invariant in (
-      record { there = omega (arith, inv.1, inv.2, c.requires.0, c.number_at.ensures.1); is_set = inv.3 },
-      c.requires.2,
-    )
+    let inv = c.loop-i.invariant in
+    omega (arith, inv.1, inv.2, c.requires, c.number_at.ensures.1)
 
 pub loop-i-preserved-then-spread : goal.loop-i-preserved-then-spread
 loop-i-preserved-then-spread c =
@@ -35,12 +32,11 @@ loop-i-preserved-then-spread c =
       omega arith,
       inv.1,
       inv.2,
-      spread_is c.loop-i.set _ a.trees.now inv.3 step.ensures.0,
-      walk_next (spread a.trees.now) a.table.now a.up c.loop-i.i c.loop-i.set _ _ _ c.number_at.result
+      walk_next (spread a.trees.now.words) a.table.now a.up c.loop-i.i c.loop-i.set.words _ _ _ c.number_at.result
           (omega arith) inv.1 inv.2 c.number_at.ensures step.ensures.0
-          ∙ inv.4,
-      added_more a.set.now c.loop-i.set _ c.loop-i.more inv.5
-          (subst (Added c.loop-i.set _) c.if-spread.true step.ensures.1),
+          ∙ inv.3,
+      added_more a.set.now.words c.loop-i.set.words _ c.loop-i.more inv.4
+          (subst (Added c.loop-i.set.words _) c.if-spread.true step.ensures.1),
     )
 
 pub loop-i-preserved : goal.loop-i-preserved
@@ -51,17 +47,16 @@ loop-i-preserved c =
       omega arith,
       inv.1,
       inv.2,
-      spread_is c.loop-i.set _ a.trees.now inv.3 step.ensures.0,
-      walk_next (spread a.trees.now) a.table.now a.up c.loop-i.i c.loop-i.set _ _ _ c.number_at.result
+      walk_next (spread a.trees.now.words) a.table.now a.up c.loop-i.i c.loop-i.set.words _ _ _ c.number_at.result
           (omega arith) inv.1 inv.2 c.number_at.ensures step.ensures.0
-          ∙ inv.4,
-      added_same a.set.now c.loop-i.set _ c.loop-i.more inv.5
-          (subst (Added c.loop-i.set _) c.if-spread.false step.ensures.1),
+          ∙ inv.3,
+      added_same a.set.now.words c.loop-i.set.words _ c.loop-i.more inv.4
+          (subst (Added c.loop-i.set.words _) c.if-spread.false step.ensures.1),
     )
 
 pub returns : goal.returns
 returns c =
     let a = c.args in
     let inv = c.loop-i.invariant in
-    let e = sym (walk_done (spread a.trees.now) a.table.now a.up c.loop-i.i c.loop-i.set _ inv.1 (omega arith)) ∙ inv.4 in
-    (e, inv.5)
+    let e = sym (walk_done (spread a.trees.now.words) a.table.now a.up c.loop-i.i c.loop-i.set.words _ inv.1 (omega arith)) ∙ inv.3 in
+    (e, inv.4)

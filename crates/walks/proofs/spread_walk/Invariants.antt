@@ -5,16 +5,15 @@ use Prim.Native.Nat.{◌≤◌, ◌-◌}
 use lib.ListN.{drop}
 use Rattle.grammar.specs.Table.{P, at_productions, grammar_of}
 use Rattle.parts.specs.Rule.{walk, spread}
-use Rattle.parts.proofs.Sets.{IsSet}
 use Rattle.walks.specs.Walk.{turned, Added}
 use Rattle.walks.proofs.spread_walk.Given as goal
 
 abbrev pub invariant-loop-i : goal.invariant-loop-i
 invariant-loop-i l =
-    (l.i ≤ l.n) × (l.n ≡ P l.table) × (l.first ≡ at_productions l.table) × IsSet l.set
-    × (walk (spread l.trees) (drop l.i (turned l.up (grammar_of l.table).productions)) l.set
-    ≡ walk (spread l.trees) (turned l.up (grammar_of l.table).productions) l.initial.set)
-    × Added l.initial.set l.set l.more
+    (l.i ≤ l.n) × (l.n ≡ P l.table) × (l.first ≡ at_productions l.table)
+    × (walk (spread l.trees.words) (drop l.i (turned l.up (grammar_of l.table).productions)) l.set.words
+    ≡ walk (spread l.trees.words) (turned l.up (grammar_of l.table).productions) l.initial.set.words)
+    × Added l.initial.set.words l.set.words l.more
 
 abbrev pub decreases-loop-i : goal.decreases-loop-i
 decreases-loop-i l = l.n - l.i

@@ -6,13 +6,13 @@ use Rattle.parts.specs.Sets.{has}
 use Rattle.walks.proofs.Steps.{takes_not, takes_by}
 use Rattle.walks.proofs.takes_part.Goals as goal
 
-pub returns-then-not-is_in : goal.returns-then-not-is_in
-returns-then-not-is_in c =
+pub returns-then-not-has : goal.returns-then-not-has
+returns-then-not-has c =
     let a = c.args in
-    takes_not a.treed.now a.reached.now a.production (sym c.is_in.ensures ∙ c.if-not-is_in.true)
+    takes_not a.treed.now.words a.reached.now.words a.production (sym c.has.ensures ∙ c.if-not-has.true)
 
 pub returns : goal.returns
 returns c =
     let a = c.args in
-    c.all_of.ensures ∙ ap (λ n. every (has a.treed.now) (take n a.production.slots)) c.wide.ensures
-    ∙ takes_by a.treed.now a.reached.now a.production (sym c.is_in.ensures ∙ c.if-not-is_in.false)
+    c.all_of.ensures ∙ ap (λ n. every (has a.treed.now.words) (take n a.production.slots)) c.wide.ensures
+    ∙ takes_by a.treed.now.words a.reached.now.words a.production (sym c.has.ensures ∙ c.if-not-has.false)

@@ -11,4 +11,4 @@ pub returns-then-is_whole : goal.returns-then-is_whole
 returns-then-is_whole c = c.with_trees.ensures ∙ set_whole _ _ (sym c.is_whole.ensures ∙ c.if-is_whole.true)
 
 pub returns : goal.returns
-returns c = set_short _ _ (sym c.is_whole.ensures ∙ c.if-is_whole.false)
+returns c = c.empty.ensures ∙ set_short _ _ (sym c.is_whole.ensures ∙ c.if-is_whole.false)

@@ -3,12 +3,12 @@
 use Prim.Native.Nat.{◌-◌}
 use Rattle.grammar.specs.Table.{grammar_of}
 use Rattle.parts.specs.Rule.{treed}
-use Rattle.parts.proofs.Sets.{Within, IsSet}
+use Rattle.parts.proofs.Sets.{Within}
 use Rattle.parts.proofs.Sizes.{size}
 use Rattle.walks.proofs.with_trees.Given as goal
 
 abbrev pub invariant-loop-up : goal.invariant-loop-up
-invariant-loop-up l = IsSet l.set × Within l.set (treed (grammar_of l.table))
+invariant-loop-up l = Within l.set.words (treed (grammar_of l.table))
 
 abbrev pub decreases-loop-up : goal.decreases-loop-up
-decreases-loop-up l = 256 - size l.set
+decreases-loop-up l = 256 - size l.set.words
