@@ -1,8 +1,8 @@
 -- The row after a test agrees with the slices, record by record, exactly if these hold what the test over slices would leave in them.
 -- Assumes nothing.
 use mathlib.Core.Path.{◌≡◌, refl, sym, ap, subst, ◌∙◌}
-use mathlib.Core.Bool.{Bool, true, false, true≢false}
 use mathlib.Core.List.{List, map}
+use Rattle.std.specs.Prelude.{Option, Some}
 use mathlib.Core.Logic.{◌↔◌}
 use Prim.Native.Nat.{ℕ, zero, suc, ◌*◌, ◌≤◌, ◌<◌, min}
 use native.Mathlib.Omega.{arith}
@@ -20,9 +20,7 @@ use Rattle.passes.proofs.Entries.{length_entries, entry_at_lem, field_taken, kid
 use Rattle.passes.proofs.Testing.{tells_same}
 use Rattle.passes.proofs.Told.{entries_fit, entries_told}
 use Rattle.rows.proofs.Writing.{length_written, written_there, written_rest}
-use Rattle.agreement.specs.declared.RowTried.{RowTried}
 use Rattle.agreement.specs.Agreement.{blank_entry, Alike, row_of, Tries}
-use Rattle.agreement.proofs.Exactly.{never}
 use Rattle.agreement.proofs.Rowing.{length_row}
 use Rattle.agreement.proofs.Finding.{different_test, NewAt, found_here, not_before}
 
@@ -121,7 +119,7 @@ module _ (bs : List ℕ) (limit room : ℕ) (few : room ≤ 4096) (σ : Slices) 
 
 -- ---- what comes of the test over a row, against a report and slices
 
-module _ (bs : List ℕ) (limit room most : ℕ) (σ : Slices) (b : Entry) (r : RowTried) (report : Report)
+module _ (bs : List ℕ) (limit room most : ℕ) (σ : Slices) (b : Entry) (r : Option Report) (report : Report)
     (clipped : most ≡ min 4096 room) (blank : b ≡ blank_entry) (tries : Tries (test bs limit most) b σ r) where
   few : most ≤ 4096
   few = omega (arith, clipped)
@@ -129,15 +127,9 @@ module _ (bs : List ℕ) (limit room most : ℕ) (σ : Slices) (b : Entry) (r : 
   tried : Tries (test bs limit most) blank_entry σ r
   tried = subst (λ (x : Entry). Tries (test bs limit most) x σ r) blank tries
 
-  clip : Tells (test bs limit (min 4096 room)) σ report σ → Tells (test bs limit most) σ report σ
-  clip told = tells_same (ap (test bs limit) (sym clipped)) told
-
-  pub differs : r.same ≡ false → (false ≡ true) ↔ Tells (test bs limit (min 4096 room)) σ report σ
-  differs e = never (λ told. true≢false (sym (tried.same.1 (told_alike bs limit most few σ report (clip told))) ∙ e))
-
-  pub agrees : r.same ≡ true → (t : Bool) → (t ≡ true) ↔ (r.report ≡ report) → (t ≡ true) ↔ Tells (test bs limit (min 4096 room)) σ report σ
-  agrees e t same = (
-    λ h. tells_same (ap (test bs limit) clipped)
-        (alike_told bs limit most few σ (tried.same.0 e) report (sym (same.0 h) ∙ tried.report)),
-    λ told. same.1 (tried.report ∙ sym (clip told).report),
+  pub agrees : (r ≡ Some report) ↔ Tells (test bs limit (min 4096 room)) σ report σ
+  agrees = (
+    λ h. let w = (tried report).0 h in tells_same (ap (test bs limit) clipped) (alike_told bs limit most few σ w.1 report w.0),
+    λ told. let clip : Tells (test bs limit most) σ report σ = tells_same (ap (test bs limit) (sym clipped)) told in
+        (tried report).1 (clip.report, told_alike bs limit most few σ report clip),
   )

@@ -1,12 +1,10 @@
 -- `agreement::agrees` meets its promise. Assumes nothing.
-use borrow.Author.Tests.{not-true, not-false}
-use Rattle.agreement.proofs.Agreeing.{differs, agrees}
+use Rattle.agreement.proofs.Exactly.{same_some}
+use Rattle.agreement.proofs.Agreeing.{agrees}
 use Rattle.agreement.proofs.agrees.Goals as goal
-
-pub returns-then-not-tried : goal.returns-then-not-tried
-returns-then-not-tried c =
-    differs _ _ _ _ _ _ _ _ c.smaller-most.ensures c.blank.ensures c.try_row-tried.ensures (not-true _ c.if-not-tried.true)
 
 pub returns : goal.returns
 returns c =
-    agrees _ _ _ _ _ _ _ _ c.smaller-most.ensures c.blank.ensures c.try_row-tried.ensures (not-false _ c.if-not-tried.false) _ c.same_report.ensures
+    let same = same_some _ _ _ c.eq.ensures in
+    let told = agrees c.args.table.now c.args.limit c.args.room _ _ _ _ c.args.report c.min.ensures c.blank.ensures c.try_row-tried.ensures in
+    (λ h. told.0 (same.0 h), λ t. same.1 (told.1 t))

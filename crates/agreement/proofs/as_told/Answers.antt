@@ -1,4 +1,7 @@
 -- `agreement::as_told` meets its promise. Assumes nothing.
+use mathlib.Core.Path.{◌≡◌}
+use mathlib.Core.Bool.{true}
+use mathlib.Core.Logic.{◌↔◌}
 use Prim.Native.Nat.{ℕ, ◌≤◌, ◌<◌}
 use native.Mathlib.Omega.{arith}
 use Rattle.agreement.proofs.Exactly.{never}
@@ -10,7 +13,9 @@ no_more : {i room : ℕ} → i < room → room ≤ i → ⊥
 no_more l m = omega arith
 
 pub returns-then-wide-at : goal.returns-then-wide-at
-returns-then-wide-at c = told_rest (search rules) c.same_entry.ensures c.blank.ensures
+returns-then-wide-at c =
+    let same : (c.eq.result ≡ true) ↔ (c.args.e ≡ c.blank.result) = search rules in
+    told_rest (search rules) same c.blank.ensures
 
 pub returns-then-room_of-at : goal.returns-then-room_of-at
 returns-then-room_of-at c = never (λ told. no_more (told.stored (omega (arith, c.if-wide-at.false, c.wide.ensures))).0 (search rules))
@@ -23,4 +28,5 @@ returns-then-before-at c = never (λ told. c.if-before-at.true (told.stored (ome
 
 pub returns : goal.returns
 returns c =
-    told_stored (omega (arith, c.if-wide-at.false, c.wide.ensures)) (search rules) c.if-first-at.false c.if-before-at.false c.same_entry-2.ensures c.entry_of.ensures
+    let same : (c.eq-2.result ≡ true) ↔ (c.args.e ≡ c.entry_of.result) = search rules in
+    told_stored (omega (arith, c.if-wide-at.false, c.wide.ensures)) (search rules) c.if-first-at.false c.if-before-at.false same c.entry_of.ensures

@@ -1,9 +1,10 @@
 -- `agreement::try_row` meets its promise: what the test over the front of the row has left, with the rest of the row behind it. Assumes
 -- nothing.
-use mathlib.Core.Bool.{Bool, true}
+use mathlib.Core.Bool.{Bool, true, false, true≢false}
+use Rattle.std.specs.Prelude.{Some, None}
 use mathlib.Core.List.{List, ◌++◌}
 use mathlib.Core.Logic.{◌↔◌}
-use mathlib.Core.Path.{◌≡◌, ap, ◌∙◌}
+use mathlib.Core.Path.{◌≡◌, sym, ap, ◌∙◌}
 use Prim.Native.Nat.{ℕ, ◌≤◌}
 use native.Mathlib.Omega.{arith}
 use lib.ListN.{length, take, drop}
@@ -47,14 +48,29 @@ module _ (bs : List ℕ) (limit k : ℕ) (few : k ≤ 4096) (e : Entry) (σ : Sl
         (tested.entries ∙ ap (λ (j : ℕ). written (rules.test bs limit j).entries (take k xs)) room_is)
         ∙ written_front out.entries xs k counted.sound.fits within
 
-    tries : (same : Bool) → (same ≡ true) ↔ Alike σ r.entries (zs ++ drop k xs) → Tries out e σ (record { report = r; same = same })
-    tries same t =
-        let count : r.entries ≡ out.report.entries = ap (λ (y : Report). y.entries) report_is in
-        record { report = report_is; same = (λ h. rw (count, after_is) at (t.0 h), λ a. t.1 (rw (count, after_is) a)) }
+    -- where it is found alike the report is given, else none is
+    given : (t : Bool) → (t ≡ true) ↔ Alike σ r.entries (zs ++ drop k xs) → t ≡ true → Tries out e σ (Some r)
+    given t same h x = (
+      λ g. let w : r ≡ x = cc in (sym w ∙ report_is, rw (ap (λ (y : Report). y.entries) report_is, after_is) at (same.0 h)),
+      λ w. ap Some (report_is ∙ sym w.0),
+    )
 
-pub returns : goal.returns
+    withheld : (t : Bool) → (t ≡ true) ↔ Alike σ r.entries (zs ++ drop k xs) → t ≡ false → Tries out e σ None
+    withheld t same h x = (
+      λ g. absurd (cc),
+      λ w. absurd (true≢false (sym (same.1 (rw (ap (λ (y : Report). y.entries) report_is, after_is) w.1)) ∙ h)),
+    )
+
+pub returns-then-alike : goal.returns-then-alike
 unfolding row_of
-returns c =
+returns-then-alike c =
     let a = c.args in
-    tries a.table.now a.limit a.room c.requires a.e (slices a.symbols.now a.graphs.now a.productions.now a.kids.now) c.test-report.result
-    c.test-report.new.entries c.test-report.ensures c.alike-same.result c.alike-same.ensures
+    given a.table.now a.limit a.room c.requires a.e (slices a.symbols.now a.graphs.now a.productions.now a.kids.now) c.test-report.result
+    c.test-report.new.entries c.test-report.ensures c.alike.result c.alike.ensures c.if-alike.true
+
+pub returns-else-alike : goal.returns-else-alike
+unfolding row_of
+returns-else-alike c =
+    let a = c.args in
+    withheld a.table.now a.limit a.room c.requires a.e (slices a.symbols.now a.graphs.now a.productions.now a.kids.now) c.test-report.result
+    c.test-report.new.entries c.test-report.ensures c.alike.result c.alike.ensures c.if-alike.false
