@@ -1,14 +1,21 @@
 -- The entry of a number and the store of one, by whether the slices hold it. Assumes nothing.
-use mathlib.Core.Path.{◌≡◌, refl}
+use mathlib.Core.Path.{◌≡◌, refl, ap}
 use mathlib.Core.Bool.{Bool, true, false, cond}
-use Prim.Native.Nat.{ℕ, ◌*◌, ◌≤◌, ◌<◌}
+use Prim.Native.Nat.{ℕ, ◌+◌, ◌*◌, ◌≤◌, ◌<◌}
 use lib.Dec.{ltb}
-use lib.ListN.{length, length-set}
-use lib.Seq.{length-sets}
+use mathlib.Core.List.{List, ◌++◌, append_assoc}
+use lib.ListN.{length, take, drop, length-set}
+use lib.Seq.{sets, sets-eq, length-sets, drop-drop}
+use borrow.Rule.Slice.PartMut.{put_mid}
 use borrow.Author.Tests.{lt-ltb, le-ltb}
 use Rattle.rules.specs.declared.Entry.{Entry}
 use Rattle.rules.specs.Passes.{no_entry}
 use Rattle.steps.specs.Slices.{Slices, room_of, entry_at, entry_in, put, put_in}
+
+-- a write to a part of a list
+pub part_put : (l vs ys : List ℕ) (i k : ℕ) → ys ≡ vs → k ≡ length vs → i + length vs ≤ length l → put_mid i k l ys ≡ sets l i vs
+part_put l vs ys i k e h fits =
+    rw (e, h, sets-eq vs l i fits, append_assoc (take i l) vs (drop (i + length vs) l)) (ap (λ (xs : List ℕ). take i l ++ (vs ++ xs)) (drop-drop (length vs) i l))
 
 module _ (σ : Slices) (i : ℕ) where
   pub entry_held : i < room_of σ → entry_in σ i ≡ entry_at σ i

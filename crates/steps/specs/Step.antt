@@ -49,9 +49,9 @@ judged k edges symbols graphs left stored picked =
     (eqb stored k.room)
 
 -- the verdict and, where the combination is new, its graph
-pub record Judges (k : Task) (edges symbols graphs : List ℕ) (left stored : ℕ) (picked : List ℕ) (j : Judged) : Type 0 where
-  pub verdict_is : j.verdict ≡ judged k edges symbols graphs left stored picked
-  pub graph_is : j.verdict ≡ New → j.graph ≡ root_graph attributes (closed_in edges graphs k.count picked)
+pub record Judges (k : Task) (edges : List ℕ) (σ : Slices) (left stored : ℕ) (picked : List ℕ) (j : Judged) : Type 0 where
+  pub verdict_is : j.verdict ≡ judged k edges σ.symbols σ.graphs left stored picked
+  pub graph_is : j.verdict ≡ New → j.graph ≡ root_graph attributes (closed_in edges σ.graphs k.count picked)
 
 -- ---- what is done
 

@@ -6,7 +6,7 @@ ghost use Rattle.std.specs.Prelude.{◌≡◌, ◌+◌, ◌≤◌, min, length, 
 ghost use Rattle.std.proofs.lemmas.List.Edits.{sets};
 ghost use Rattle.steps.specs.Slices.{room_for, room_of, entry_in, put_in, slices};
 ghost use Rattle.steps.specs.Lent.{held, read, Lent};
-ghost use Rattle.steps.specs.Step.{goes_on, stops, seen_in, Judges, stores, entry_of, Tried};
+ghost use Rattle.steps.specs.Step.{goes_on, stops, seen_in, least, Judges, stores, Tried};
 
 use grammar::SLOTS;
 use rules::{Answer, Entry, MOST_ENTRIES};
@@ -40,6 +40,20 @@ impl Store<'_> {
             kids: &*self.kids,
         }
     }
+
+    // Stores an entry as number i, where the slices have room for it.
+    fn put(&mut self, i: usize, entry: Entry)
+        ensures put { held self.new ≡ put_in (held self.old) i entry }
+        ensures lent { Lent self.old self.new }
+    {
+        if i < self.entries().room() {
+            self.symbols[i] = entry.symbol;
+            self.graphs[i] = entry.graph;
+            self.productions[i] = entry.production;
+            let at = SLOTS * i;
+            self.kids[at..at + SLOTS].copy_from_slice(&entry.kids);
+        }
+    }
 }
 
 impl Entries<'_> {
@@ -59,7 +73,37 @@ impl Entries<'_> {
     pub fn entry(self, i: usize) -> Entry
         ensures { result ≡ entry_in (read self.entry) i }
     {
-        entry_of(self.symbols, self.graphs, self.productions, self.kids, i)
+        if self.room() <= i {
+            return Entry {
+                symbol: 0,
+                graph: 0,
+                production: 0,
+                kids: [0u16; SLOTS],
+            };
+        }
+        let at = SLOTS * i;
+        let mut kids = [0u16; SLOTS];
+        kids.copy_from_slice(&self.kids[at..at + SLOTS]);
+        Entry {
+            symbol: self.symbols[i],
+            graph: self.graphs[i],
+            production: self.productions[i],
+            kids,
+        }
+    }
+
+    // Whether the symbol with the graph is among the first `stored` entries that have both.
+    fn seen(self, symbol: u16, graph: u64, stored: usize) -> bool
+        ensures { result ≡ seen_in self.entry.symbols.now self.entry.graphs.now symbol graph
+            (least self.entry.symbols.now self.entry.graphs.now stored) }
+    {
+        let both = stored.min(self.symbols.len()).min(self.graphs.len());
+        for k in (0..both).rev() {
+            if self.symbols[k] == symbol && self.graphs[k] == graph {
+                return true;
+            }
+        }
+        false
     }
 }
 
@@ -119,18 +163,6 @@ pub fn room_of(symbols: usize, graphs: usize, productions: usize, kids: usize) -
     )
 }
 
-// The seven slots from `at` on.
-fn slots_at(kids: &[u16], at: usize) -> [u16; SLOTS]
-    requires { at + 7 ≤ length kids.now }
-    ensures { result ≡ take 7 (drop at kids.now) }
-{
-    let mut slots = [0u16; SLOTS];
-    for k in 0..SLOTS {
-        slots[k] = kids[at + k];
-    }
-    slots
-}
-
 // The entry of a number; where the slices hold none, one of zeros.
 pub fn entry_of(
     symbols: &[u16],
@@ -141,58 +173,25 @@ pub fn entry_of(
 ) -> Entry
     ensures { result ≡ entry_in (slices symbols.now graphs.now productions.now kids.now) i }
 {
-    let room = room_of(symbols.len(), graphs.len(), productions.len(), kids.len());
-    if room <= i {
-        return Entry {
-            symbol: 0,
-            graph: 0,
-            production: 0,
-            kids: [0u16; SLOTS],
-        };
-    }
-    Entry {
-        symbol: symbols[i],
-        graph: graphs[i],
-        production: productions[i],
-        kids: slots_at(kids, SLOTS * i),
-    }
-}
-
-// Whether the symbol with the graph is among the first `stored` entries.
-fn seen(symbols: &[u16], graphs: &[u64], stored: usize, symbol: u16, graph: u64) -> bool
-    requires { (stored ≤ length symbols.now) × (stored ≤ length graphs.now) }
-    ensures { result ≡ seen_in symbols.now graphs.now symbol graph stored }
-{
-    let mut k = stored;
-    while 0 < k {
-        k -= 1;
-        if symbols[k] == symbol {
-            if graphs[k] == graph {
-                return true;
-            }
-        }
-    }
-    false
-}
-
-// How many of `stored` entries have both a symbol and a graph.
-fn compared(symbols: usize, graphs: usize, stored: usize) -> usize
-    ensures { result ≡ min stored (min symbols graphs) }
-{
-    numbers::smaller(stored, numbers::smaller(symbols, graphs))
+    let entries = Entries {
+        symbols,
+        graphs,
+        productions,
+        kids,
+    };
+    entries.entry(i)
 }
 
 // Steps 1 to 5.
 fn judge(
-    symbols: &[u16],
-    graphs: &[u64],
+    entries: Entries<'_>,
     edges: &[u8],
     task: Task,
     picked: &[u16; SLOTS],
     left: u32,
     stored: usize,
 ) -> Judged
-    ensures { Judges task edges.now symbols.now graphs.now left stored picked.now result }
+    ensures { Judges task edges.now (read entries.entry) left stored picked.now result }
 {
     if left == 0 {
         return Judged {
@@ -200,7 +199,7 @@ fn judge(
             graph: 0,
         };
     }
-    let made = closures::closure(edges, graphs, picked, task.count);
+    let made = closures::closure(edges, entries.graphs, picked, task.count);
     let graph = made.graph;
     if made.circle {
         return Judged {
@@ -208,8 +207,7 @@ fn judge(
             graph,
         };
     }
-    let known = compared(symbols.len(), graphs.len(), stored);
-    if seen(symbols, graphs, known, task.symbol, graph) {
+    if entries.seen(task.symbol, graph, stored) {
         return Judged {
             verdict: Verdict::Known,
             graph,
@@ -224,39 +222,6 @@ fn judge(
     Judged {
         verdict: Verdict::New,
         graph,
-    }
-}
-
-// Stores the seven slots of an entry.
-fn put_row(kids: &mut [u16], at: usize, picked: &[u16])
-    requires { (at + 7 ≤ length kids.old) × (length picked.now ≡ 7) }
-    ensures { kids.new ≡ sets kids.old at picked.now }
-{
-    for k in 0..SLOTS {
-        kids[at + k] = picked[k];
-    }
-}
-
-// Stores an entry, where the slices have room for one of its number.
-fn put_entry(
-    symbols: &mut [u16],
-    graphs: &mut [u64],
-    productions: &mut [u16],
-    kids: &mut [u16],
-    task: Task,
-    graph: u64,
-    picked: &[u16; SLOTS],
-    stored: usize,
-)
-    ensures { slices symbols.new graphs.new productions.new kids.new
-        ≡ put_in (slices symbols.old graphs.old productions.old kids.old) stored (entry_of task graph picked.now) }
-{
-    let room = room_of(symbols.len(), graphs.len(), productions.len(), kids.len());
-    if stored < room {
-        symbols[stored] = task.symbol;
-        graphs[stored] = graph;
-        productions[stored] = task.number;
-        put_row(kids, SLOTS * stored, picked);
     }
 }
 
@@ -298,34 +263,27 @@ fn is_new(verdict: Verdict) -> bool
 
 // The six steps for one combination of the first `stored` entries, where `left` closures are left.
 pub fn try_one(
-    symbols: &mut [u16],
-    graphs: &mut [u64],
-    productions: &mut [u16],
-    kids: &mut [u16],
+    store: &mut Store<'_>,
     edges: &[u8],
     task: Task,
     picked: &[u16; SLOTS],
     left: u32,
     stored: usize,
 ) -> Verdict
-    ensures { Tried task edges.now picked.now left stored
-        (slices symbols.old graphs.old productions.old kids.old) result
-        (slices symbols.new graphs.new productions.new kids.new) }
+    ensures tried { Tried task edges.now picked.now left stored (held store.old) result (held store.new) }
+    ensures lent { Lent store.old store.new }
 {
-    let judged = judge(symbols, graphs, edges, task, picked, left, stored);
-    let verdict = judged.verdict;
-    let graph = judged.graph;
-    if is_new(verdict) {
-        put_entry(
-            symbols,
-            graphs,
-            productions,
-            kids,
-            task,
-            graph,
-            picked,
+    let judged = judge(store.entries(), edges, task, picked, left, stored);
+    if is_new(judged.verdict) {
+        store.put(
             stored,
+            Entry {
+                symbol: task.symbol,
+                graph: judged.graph,
+                production: task.number,
+                kids: *picked,
+            },
         );
     }
-    verdict
+    judged.verdict
 }

@@ -2,7 +2,6 @@
 use mathlib.Core.Path.{refl, sym, ap, ◌∙◌}
 use mathlib.Core.Bool.{true, false, false≢true}
 use borrow.Author.Tests.{eq-eqb, ne_eqb}
-use native.Mathlib.Omega.{arith}
 use Rattle.steps.specs.Step.{stores, verdict}
 use Rattle.steps.proofs.Verdicts.{judged_by}
 use Rattle.steps.proofs.judge.Goals as goal
@@ -13,7 +12,7 @@ returns-then-left-eq0 c =
     let a = c.args in
     record {
       verdict_is =
-          judged_by a.task a.edges.now a.symbols.now a.graphs.now a.left a.stored a.picked.now true _ _ _ _ _
+          judged_by a.task a.edges.now a.entries.symbols.now a.entries.graphs.now a.left a.stored a.picked.now true _ _ _ _ _
           (eq-eqb _ _ c.if-left-eq0.true) refl refl refl refl refl;
       graph_is = λ h. absurd (false≢true (ap stores h));
     }
@@ -25,13 +24,10 @@ returns-then-made c =
     let made = c.closure-made in
     record {
       verdict_is =
-          judged_by a.task a.edges.now a.symbols.now a.graphs.now a.left a.stored a.picked.now false true _ _ _ _
+          judged_by a.task a.edges.now a.entries.symbols.now a.entries.graphs.now a.left a.stored a.picked.now false true _ _ _ _
           (ne_eqb _ _ c.if-left-eq0.false) (sym c.if-made.true ∙ made.ensures.0) refl refl refl refl;
       graph_is = λ h. absurd (false≢true (ap stores h));
     }
-
-pub seen-requires : goal.seen-requires
-seen-requires c = (omega (arith, c.compared-known.ensures), omega (arith, c.compared-known.ensures))
 
 pub returns-then-seen : goal.returns-then-seen
 unfolding verdict
@@ -40,9 +36,9 @@ returns-then-seen c =
     let made = c.closure-made in
     record {
       verdict_is =
-          judged_by a.task a.edges.now a.symbols.now a.graphs.now a.left a.stored a.picked.now false false true _ made.result.graph _
+          judged_by a.task a.edges.now a.entries.symbols.now a.entries.graphs.now a.left a.stored a.picked.now false false true _ made.result.graph _
           (ne_eqb _ _ c.if-left-eq0.false) (sym c.if-made.false ∙ made.ensures.0) made.ensures.1
-          c.compared-known.ensures (sym c.seen.ensures ∙ c.if-seen.true) refl;
+          refl (sym c.seen.ensures ∙ c.if-seen.true) refl;
       graph_is = λ h. absurd (false≢true (ap stores h));
     }
 
@@ -53,10 +49,10 @@ returns-then-stored-task c =
     let made = c.closure-made in
     record {
       verdict_is =
-          judged_by a.task a.edges.now a.symbols.now a.graphs.now a.left a.stored a.picked.now false false false true made.result.graph _
+          judged_by a.task a.edges.now a.entries.symbols.now a.entries.graphs.now a.left a.stored a.picked.now false false false true made.result.graph _
           (ne_eqb _ _ c.if-left-eq0.false)
           (sym c.if-made.false ∙ made.ensures.0) made.ensures.1
-          c.compared-known.ensures (sym c.seen.ensures ∙ c.if-seen.false) (eq-eqb _ _ c.if-stored-task.true);
+          refl (sym c.seen.ensures ∙ c.if-seen.false) (eq-eqb _ _ c.if-stored-task.true);
       graph_is = λ h. absurd (false≢true (ap stores h));
     }
 
@@ -67,9 +63,9 @@ returns c =
     let made = c.closure-made in
     record {
       verdict_is =
-          judged_by a.task a.edges.now a.symbols.now a.graphs.now a.left a.stored a.picked.now false false false false made.result.graph _
+          judged_by a.task a.edges.now a.entries.symbols.now a.entries.graphs.now a.left a.stored a.picked.now false false false false made.result.graph _
           (ne_eqb _ _ c.if-left-eq0.false)
           (sym c.if-made.false ∙ made.ensures.0) made.ensures.1
-          c.compared-known.ensures (sym c.seen.ensures ∙ c.if-seen.false) (ne_eqb _ _ c.if-stored-task.false);
+          refl (sym c.seen.ensures ∙ c.if-seen.false) (ne_eqb _ _ c.if-stored-task.false);
       graph_is = λ h. made.ensures.1;
     }
