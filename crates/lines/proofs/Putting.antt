@@ -1,16 +1,15 @@
 -- A line put into a buffer, by whether it fits. Assumes nothing.
-use mathlib.Core.Path.{◌≡◌, refl, ◌∙◌}
+use mathlib.Core.Path.{◌≡◌, refl, sym, ◌∙◌}
 use mathlib.Core.Bool.{Bool, true, false}
 use mathlib.Core.List.{List, ◌++◌, append_assoc}
 use Prim.Native.Nat.{ℕ, ◌+◌, ◌≤◌, ◌<◌}
 use native.Mathlib.Nat.{add_assoc}
 use native.Mathlib.Omega.{arith}
 use borrow.Author.Tests.{leb-true, le-leb, lt-leb}
+use borrow.Rule.Slice.PartMut.{put_mid}
 use lib.ListN.{length, take, drop, length-append, length-drop}
 use lib.Seq.{length-take-le, take_at, drop-append-add, drop-drop}
-use Rattle.lines.specs.declared.Line.{Line}
 use Rattle.lines.specs.Buffer.{line_fits, put_line, next, Written}
-use Rattle.lines.specs.Pieces.{text, LineIs}
 
 module _ (line : List ℕ) (at : ℕ) (old : List ℕ) where
   pub too_long : length old < at + length line → Written line at old old at
@@ -39,9 +38,10 @@ module _ (line : List ℕ) (at : ℕ) (old : List ℕ) where
       by true e = rw (w.place, e) (leb-true _ _ e)
       by false e = rw (w.place, e) h
 
--- a line that was made whole first
-pub of_line : {l : List ℕ} {r : Line} {at : ℕ} {old new : List ℕ} {n : ℕ} → LineIs l r → Written (text r) at old new n → Written l at old new n
-of_line h p = rw h.text_is at p
+-- a word that was copied into its place
+pub put_at : {k : ℕ} {word : List ℕ} (at : ℕ) (old mid : List ℕ) → k ≡ length word → mid ≡ word
+    → put_mid at k old mid ≡ take at old ++ word ++ drop (at + length word) old
+put_at {k} {word} at old mid l e = rw (e, l, drop-drop) (sym (append_assoc (take at old) word (drop (at + length word) old)))
 
 -- what is put right after a first part of n elements
 spliced :

@@ -5,6 +5,10 @@ use Rattle.std.specs.Prelude.{◌≡◌, Bool, cond, List, ◌++◌, ℕ, ◌+�
 abbrev pub line_bytes : ℕ
 line_bytes = 128
 
+-- room for a line in the making
+abbrev pub making_bytes : ℕ
+making_bytes = 320
+
 abbrev pub line_fits : List ℕ → ℕ → List ℕ → Bool
 line_fits line at old = leb (at + length line) (length old)
 

@@ -1,3 +1,2 @@
--- A line in a lent buffer, and how the code makes one.
+-- A line in a lent buffer.
 pub mod Buffer
-pub mod Pieces
