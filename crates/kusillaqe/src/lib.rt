@@ -14,6 +14,7 @@ ghost use Rattle.kusillaqe.specs.Flat.{TestedFlat};
 
 use flats::{REPORT, TRAIL};
 use grammar::{NODES, OCCURRENCES};
+use steps::Store;
 
 // The check of a table: the number of the rule that it breaks, 0 where it breaks none, and the first bad record.
 #[unsafe(no_mangle)]
@@ -40,7 +41,13 @@ pub extern "C" fn kusillaqe_test(
         report.new
         (slices symbols.new graphs.new productions.new kids.new) }
 {
-    let r = passes::test(table, limit, symbols, graphs, productions, kids);
+    let mut store = Store {
+        symbols,
+        graphs,
+        productions,
+        kids,
+    };
+    let r = passes::test(table, limit, &mut store);
     flats::flat_report(r, report);
 }
 

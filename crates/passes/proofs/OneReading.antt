@@ -4,6 +4,7 @@ use Rattle.numbers.proofs.Reading.{OneOutcome}
 use Rattle.rules.specs.declared.Report.{Report}
 use Rattle.rules.specs.Passes.{Outcome}
 use Rattle.passes.specs.Slices.{Slices, slices, Tells}
+use Rattle.steps.specs.Lent.{held}
 use Rattle.passes.proofs.test.Kinds as test_kinds
 use Rattle.passes.proofs.test.Reads as test_reads
 
@@ -17,8 +18,8 @@ told_once p q i = (
       ((p.kids ∙ sym q.kids) i),
 )
 
--- the parameters at exit: table, limit, symbols, graphs, productions, kids
+-- the parameters at exit: table, limit, store
 pub one_reading_test :
-    OneOutcome 5 test_kinds.ps test_kinds.r test_reads.Post {W = λ κs. Back}
-    (λ κs r s. (r, slices s.1.1.0.now s.1.1.1.0.now s.1.1.1.1.0.now s.1.1.1.1.1.0.now))
-one_reading_test κs a x y s t p q = told_once p q
+    OneOutcome 3 test_kinds.ps test_kinds.r test_reads.Post {W = λ κs. Back}
+    (λ κs r s. (r, held s.1.1.0.now))
+one_reading_test κs a x y s t p q = told_once p.0 q.0

@@ -10,7 +10,8 @@ ghost use Rattle.graph.specs.Trails.{trail, no_trail};
 ghost use Rattle.parts.specs.Rule.{taking};
 ghost use Rattle.rules.specs.Passes as stated;
 ghost use Rattle.rules.specs.Test.{system_in, report_with};
-ghost use Rattle.passes.specs.Slices.{room_of, Tells, Tested, slices};
+ghost use Rattle.passes.specs.Slices.{room_of, Tells, Tested};
+ghost use Rattle.steps.specs.Lent.{held, Lent};
 ghost use Rattle.steps.specs.Step.{goes_on, counts, run_at};
 ghost use Rattle.turns.specs.Turning.{of_symbol, Numbers, Firsts};
 ghost use Rattle.passes.specs.Follow.{ending_of, unsaid, Follows, Roomy, InTurn, over, task_of, combos_in, halts, stored_at, parts_among, circle_over};
@@ -19,7 +20,7 @@ use grammar::{Checked, NODES, Production, SLOTS};
 use graph::Trail;
 use parts::WORDS;
 use rules::{Answer, Report};
-use steps::{Course, Run, Task, Verdict};
+use steps::{Course, Run, Store, Task, Verdict};
 
 // How the passes have ended: of a report all but the circle.
 #[derive(Clone, Copy)]
@@ -75,10 +76,7 @@ fn run_after(verdict: Verdict, number: u16, picked: [u16; SLOTS], left: u32, sto
 
 // The combinations of a turn that began with `first` entries, from the first of them on.
 fn combine(
-    symbols: &mut [u16],
-    graphs: &mut [u64],
-    productions: &mut [u16],
-    kids: &mut [u16],
+    store: &mut Store<'_>,
     edges: &[u8],
     task: Task,
     rights: &[u16; SLOTS],
@@ -86,35 +84,26 @@ fn combine(
     left: u32,
     first: usize,
 ) -> Run
-    requires { InTurn task rights.now first (slices symbols.old graphs.old productions.old kids.old) (goes_on left first)
-        × Numbers task.count first firsts.now × Firsts (of_symbol symbols.old rights.now) first task.count firsts.now }
-    ensures { Follows task.room
-        (over task rights.now edges.now (combos_in task rights.now first symbols.old))
-        (slices symbols.old graphs.old productions.old kids.old) (goes_on left first)
-        (slices symbols.new graphs.new productions.new kids.new) result }
+    requires { InTurn task rights.now first (held store.old) (goes_on left first)
+        × Numbers task.count first firsts.now × Firsts (of_symbol store.old.symbols.now rights.now) first task.count firsts.now }
+    ensures follows { Follows task.room
+        (over task rights.now edges.now (combos_in task rights.now first store.old.symbols.now))
+        (held store.old) (goes_on left first)
+        (held store.new) result }
+    ensures lent { Lent store.old store.new }
 {
     let mut spare = left;
     let mut stored = first;
     let mut picked = *firsts;
     loop {
-        let verdict = steps::try_one(
-            symbols,
-            graphs,
-            productions,
-            kids,
-            edges,
-            task,
-            &picked,
-            spare,
-            stored,
-        );
+        let verdict = steps::try_one(store, edges, task, &picked, spare, stored);
         if stops(verdict) {
             return run_after(verdict, task.number, picked, spare, stored);
         }
         spare -= 1;
         stored = stored_after(verdict, stored);
         let more = turns::next_combination(
-            symbols,
+            store.entries().symbols,
             rights,
             firsts,
             task.count,
@@ -147,25 +136,29 @@ fn turn(
     number: usize,
     treed: &[u64; WORDS],
     reached: &[u64; WORDS],
-    symbols: &mut [u16],
-    graphs: &mut [u64],
-    productions: &mut [u16],
-    kids: &mut [u16],
+    store: &mut Store<'_>,
     room: usize,
     run: Run,
 ) -> Run
-    requires { (refusal table.now ≡ Good) × (number < P table.now) × Roomy room (slices symbols.old graphs.old productions.old kids.old) run × (run.course ≡ Course.Going) }
-    ensures { Follows room (λ limit. stated.pass (system_in table.now) limit room
+    requires { (refusal table.now ≡ Good) × (number < P table.now) × Roomy room (held store.old) run × (run.course ≡ Course.Going) }
+    ensures follows { Follows room (λ limit. stated.pass (system_in table.now) limit room
         (parts_among treed.now reached.now (grammar_of table.now) (number ∷ [])))
-        (slices symbols.old graphs.old productions.old kids.old) run
-        (slices symbols.new graphs.new productions.new kids.new) result }
+        (held store.old) run
+        (held store.new) result }
+    ensures lent { Lent store.old store.new }
 {
     let production = tables::production_of(table, number);
     let rights = production.slots;
     let count = numbers::wide(production.n);
     let first = run.stored;
     let mut firsts = [0u16; SLOTS];
-    if !turns::first_candidates(symbols, &rights, count, first as u16, &mut firsts) {
+    if !turns::first_candidates(
+        store.entries().symbols,
+        &rights,
+        count,
+        first as u16,
+        &mut firsts,
+    ) {
         return run;
     }
     if !walks::takes_part(production, treed, reached) {
@@ -173,18 +166,7 @@ fn turn(
     }
     let edges = tables::run_of(table, number);
     let task = task_of(number, production, room);
-    combine(
-        symbols,
-        graphs,
-        productions,
-        kids,
-        edges,
-        task,
-        &rights,
-        &firsts,
-        run.left,
-        first,
-    )
+    combine(store, edges, task, &rights, &firsts, run.left, first)
 }
 
 // One pass: the productions that take part, by number.
@@ -193,18 +175,16 @@ fn pass(
     count: usize,
     treed: &[u64; WORDS],
     reached: &[u64; WORDS],
-    symbols: &mut [u16],
-    graphs: &mut [u64],
-    productions: &mut [u16],
-    kids: &mut [u16],
+    store: &mut Store<'_>,
     room: usize,
     run: Run,
 ) -> Run
-    requires { (refusal table.now ≡ Good) × (count ≡ P table.now) × Roomy room (slices symbols.old graphs.old productions.old kids.old) run }
-    ensures { Follows room (λ limit. stated.pass (system_in table.now) limit room
+    requires { (refusal table.now ≡ Good) × (count ≡ P table.now) × Roomy room (held store.old) run }
+    ensures follows { Follows room (λ limit. stated.pass (system_in table.now) limit room
         (parts_among treed.now reached.now (grammar_of table.now) (up_from 0 count)))
-        (slices symbols.old graphs.old productions.old kids.old) run
-        (slices symbols.new graphs.new productions.new kids.new) result }
+        (held store.old) run
+        (held store.new) result }
+    ensures lent { Lent store.old store.new }
 {
     let mut now = run;
     for number in 0..count {
@@ -212,18 +192,7 @@ fn pass(
         if let Course::Stopped(_) = course {
             return now;
         }
-        now = turn(
-            table,
-            number,
-            treed,
-            reached,
-            symbols,
-            graphs,
-            productions,
-            kids,
-            room,
-            now,
-        );
+        now = turn(table, number, treed, reached, store, room, now);
     }
     now
 }
@@ -248,36 +217,22 @@ fn passes(
     count: usize,
     treed: &[u64; WORDS],
     reached: &[u64; WORDS],
-    symbols: &mut [u16],
-    graphs: &mut [u64],
-    productions: &mut [u16],
-    kids: &mut [u16],
+    store: &mut Store<'_>,
     room: usize,
     limit: u32,
 ) -> Ending
-    requires { (refusal table.now ≡ Good) × (count ≡ P table.now) × (room ≡ room_of (slices symbols.old graphs.old productions.old kids.old)) }
-    ensures { Tells (stated.passes (system_in table.now) limit room
+    requires { (refusal table.now ≡ Good) × (count ≡ P table.now) × (room ≡ room_of (held store.old)) }
+    ensures tells { Tells (stated.passes (system_in table.now) limit room
         (parts_among treed.now reached.now (grammar_of table.now) (up_from 0 count)))
-        (slices symbols.old graphs.old productions.old kids.old) (unsaid result)
-        (slices symbols.new graphs.new productions.new kids.new) }
+        (held store.old) (unsaid result) (held store.new) }
+    ensures lent { Lent store.old store.new }
 {
     let mut now = steps::going_on(limit, 0);
     let mut begun: u16 = 0;
     loop {
         let before = now.stored;
         begun += 1;
-        now = pass(
-            table,
-            count,
-            treed,
-            reached,
-            symbols,
-            graphs,
-            productions,
-            kids,
-            room,
-            now,
-        );
+        now = pass(table, count, treed, reached, store, room, now);
         let course = now.course;
         if let Course::Stopped(answer) = course {
             let root = now.root;
@@ -338,51 +293,25 @@ fn reported(table: &[u8], graphs: &[u64], ending: Ending) -> Report
 }
 
 // The passes over the productions of a table that take part.
-fn passes_over(
-    table: &[u8],
-    limit: u32,
-    symbols: &mut [u16],
-    graphs: &mut [u64],
-    productions: &mut [u16],
-    kids: &mut [u16],
-) -> Ending
+fn passes_over(table: &[u8], limit: u32, store: &mut Store<'_>) -> Ending
     requires { refusal table.now ≡ Good }
-    ensures { Tells (stated.passes (system_in table.now) limit (room_of (slices symbols.old graphs.old productions.old kids.old))
+    ensures tells { Tells (stated.passes (system_in table.now) limit (room_of (held store.old))
         (taking (grammar_of table.now)))
-        (slices symbols.old graphs.old productions.old kids.old) (unsaid result)
-        (slices symbols.new graphs.new productions.new kids.new) }
+        (held store.old) (unsaid result) (held store.new) }
+    ensures lent { Lent store.old store.new }
 {
-    let room = steps::room_of(symbols.len(), graphs.len(), productions.len(), kids.len());
+    let room = store.entries().room();
     let header = tables::header_of(table);
     let count = numbers::wide(header.productions);
     let treed = walks::treed_of(table);
     let reached = walks::reached_of(table, &treed);
-    passes(
-        table,
-        count,
-        &treed,
-        &reached,
-        symbols,
-        graphs,
-        productions,
-        kids,
-        room,
-        limit,
-    )
+    passes(table, count, &treed, &reached, store, room, limit)
 }
 
 // The circularity test of a table with at most `limit` closures. The stored entries are left at the front of the slices.
-pub fn test(
-    table: &[u8],
-    limit: u32,
-    symbols: &mut [u16],
-    graphs: &mut [u64],
-    productions: &mut [u16],
-    kids: &mut [u16],
-) -> Report
-    ensures { Tested table.now limit
-        (slices symbols.old graphs.old productions.old kids.old) result
-        (slices symbols.new graphs.new productions.new kids.new) }
+pub fn test(table: &[u8], limit: u32, store: &mut Store<'_>) -> Report
+    ensures tested { Tested table.now limit (held store.old) result (held store.new) }
+    ensures lent { Lent store.old store.new }
 {
     let checked = checks::check(table);
     if let Checked::Refused(broken) = checked {
@@ -395,6 +324,6 @@ pub fn test(
             circle: search::no_trail(),
         };
     }
-    let ending = passes_over(table, limit, symbols, graphs, productions, kids);
-    reported(table, graphs, ending)
+    let ending = passes_over(table, limit, store);
+    reported(table, store.entries().graphs, ending)
 }

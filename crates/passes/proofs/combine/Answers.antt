@@ -17,6 +17,9 @@ use Rattle.turns.proofs.Turning.{numbers_long}
 use Rattle.turns.proofs.Turning as turning
 use Rattle.passes.specs.Slices.{Slices}
 use Rattle.passes.specs.Follow.{Kept, InTurn, combos_in, halts, stored_at}
+use Rattle.steps.specs.declared.Store.{Store}
+use Rattle.steps.specs.Lent.{Lent}
+use Rattle.steps.proofs.Lending.{lent_same, lent_then}
 use Rattle.passes.proofs.Following.{kept_ready}
 use Rattle.passes.proofs.Six.{follows_tried, tried_left, halted, goes_counted}
 use Rattle.passes.proofs.Six as six
@@ -25,12 +28,12 @@ use Rattle.passes.proofs.combine.Invariants.{after}
 use Rattle.passes.proofs.combine.Goals as goal
 
 -- in the loop
-module _ {k : Task} {rights firsts edges picked : List ℕ} {left first spare stored : ℕ} {σ₀ σ : Slices}
+module _ {k : Task} {rights firsts edges picked : List ℕ} {left first spare stored : ℕ} {σ₀ σ : Slices} {s₀ s : Store}
     (pre : InTurn k rights first σ₀ (goes_on left first)
     × Numbers k.count first firsts × Firsts (of_symbol σ₀.symbols rights) first k.count firsts)
     (inv : Left k rights edges (combos_in k rights first σ₀.symbols) σ₀ (goes_on left first)
     (take k.count picked ∷ after σ₀.symbols rights first k picked) σ (goes_on spare stored)
-    × Numbers k.count first picked) where
+    × Numbers k.count first picked × Lent s₀ s) where
   abbrev r₀ : Run
   r₀ = goes_on left first
 
@@ -75,6 +78,11 @@ module _ {k : Task} {rights firsts edges picked : List ℕ} {left first spare st
         subst (Left k rights edges all σ₀ r₀ later τ)
         (six.goes_on_lem v k.number picked spare stored goes ∙ ap (goes_on (spare - 1)) (sym said)) rest
 
+    -- as the store holds it
+    looked : {symbols xs : List ℕ} {more : Bool} → symbols ≡ τ.symbols → Found (moved_to symbols rights firsts first k.count picked) more xs
+        → Found m more xs
+    looked {xs} {more} same found = subst (λ (l : List ℕ). Found (moved_to l rights firsts first k.count picked) more xs) same found
+
     -- there is one
     further : {more : Bool} {xs : List ℕ} → Found m more xs → more ≡ true → later ≡ take k.count xs ∷ after σ₀.symbols rights first k xs
     further found h =
@@ -85,31 +93,32 @@ pub loop-picked-init : goal.loop-picked-init
 loop-picked-init c =
     let t = c.args.task in (
       left_start t c.args.rights.now c.args.edges.now _ _ _ _
-          (begins (of_symbol c.args.symbols.now c.args.rights.now) c.args.first t.count c.args.firsts.now
+          (begins (of_symbol c.args.store.now.symbols.now c.args.rights.now) c.args.first t.count c.args.firsts.now
           (omega (arith, c.requires.0.few, numbers_long t.count c.args.first c.args.firsts.now c.requires.0.few c.requires.1)) c.requires.2)
           c.requires.0.roomy.stored,
       c.requires.1,
+      lent_same _,
     )
 
 pub run_after-requires : goal.run_after-requires
 run_after-requires c =
     let now = ready c.requires c.loop-picked.invariant in
-    (one_left c.requires c.loop-picked.invariant c.try_one-verdict.ensures, omega (arith, now.roomy.stored, now.roomy.small))
+    (one_left c.requires c.loop-picked.invariant c.try_one-verdict.ensures.tried, omega (arith, now.roomy.stored, now.roomy.small))
 
 -- the passes end
-pub returns-then-stops : goal.returns-then-stops
-returns-then-stops c =
+pub returns-then-stops-clause-follows : goal.returns-then-stops-clause-follows
+returns-then-stops-clause-follows c =
     let t = c.try_one-verdict in
     let l = c.loop-picked in
     let w = halted t.result c.args.task.number l.picked l.spare l.stored (sym c.stops.ensures ∙ c.if-stops.true) in
     rw c.run_after.ensures
-    (left_stop _ _ _ _ _ _ _ _ _ (rest c.requires l.invariant t.ensures) w.0 w.1)
+    (left_stop _ _ _ _ _ _ _ _ _ (rest c.requires l.invariant t.ensures.tried) w.0 w.1)
 
 pub overflow_sub-spare : goal.overflow_sub-spare
 overflow_sub-spare c =
     let t = c.try_one-verdict in
     let goes : halts t.result ≡ false = sym c.stops.ensures ∙ c.if-stops.false in
-    let some : 1 ≤ c.loop-picked.spare = one_left c.requires c.loop-picked.invariant t.ensures (goes_counted t.result goes) in
+    let some : 1 ≤ c.loop-picked.spare = one_left c.requires c.loop-picked.invariant t.ensures.tried (goes_counted t.result goes) in
     omega arith
 
 pub stored_after-stored-requires : goal.stored_after-stored-requires
@@ -123,28 +132,32 @@ overflow_cast-first c =
     omega (arith, now.first_held, now.roomy.stored, now.roomy.small)
 
 -- there is no further combination
-pub returns-then-not-more : goal.returns-then-not-more
-returns-then-not-more c =
+pub returns-then-not-more-clause-follows : goal.returns-then-not-more-clause-follows
+returns-then-not-more-clause-follows c =
     let t = c.try_one-verdict in
     let l = c.loop-picked in
-    let n = c.next_combination-more in
+    let n = looked c.requires l.invariant t.ensures.tried (ap (λ (σ : Slices). σ.symbols) c.entries.ensures) c.next_combination-more.ensures in
     let goes : halts t.result ≡ false = sym c.stops.ensures ∙ c.if-stops.false in
     rw c.going_on.ensures
-    (left_end _ _ _ _ _ _ _ _ _ (left_over c.requires l.invariant t.ensures goes c.stored_after-stored.ensures)
-    ((moved c.requires l.invariant t.ensures).none (sym n.ensures.more_is ∙ c.if-not-more.true)))
+    (left_end _ _ _ _ _ _ _ _ _ (left_over c.requires l.invariant t.ensures.tried goes c.stored_after-stored.ensures)
+    ((moved c.requires l.invariant t.ensures.tried).none (sym n.more_is ∙ c.if-not-more.true)))
 
 pub loop-picked-smaller : goal.loop-picked-smaller
 loop-picked-smaller c =
-    let fewer = ap length (further c.requires c.loop-picked.invariant c.try_one-verdict.ensures c.next_combination-more.ensures c.if-not-more.false) in
+    let l = c.loop-picked in
+    let t = c.try_one-verdict in
+    let n = looked c.requires l.invariant t.ensures.tried (ap (λ (σ : Slices). σ.symbols) c.entries.ensures) c.next_combination-more.ensures in
+    let fewer = ap length (further c.requires l.invariant t.ensures.tried n c.if-not-more.false) in
     omega (arith, fewer)
 
 pub loop-picked-preserved : goal.loop-picked-preserved
 loop-picked-preserved c =
     let t = c.try_one-verdict in
     let l = c.loop-picked in
-    let n = c.next_combination-more in
+    let n = looked c.requires l.invariant t.ensures.tried (ap (λ (σ : Slices). σ.symbols) c.entries.ensures) c.next_combination-more.ensures in
     let goes : halts t.result ≡ false = sym c.stops.ensures ∙ c.if-stops.false in (
-      left_same _ _ _ _ _ _ _ _ _ (left_over c.requires l.invariant t.ensures goes c.stored_after-stored.ensures) _
-          (further c.requires l.invariant t.ensures n.ensures c.if-not-more.false),
-      subst (Numbers c.args.task.count c.args.first) (sym n.ensures.numbers_are) (moved c.requires l.invariant t.ensures).numbers,
+      left_same _ _ _ _ _ _ _ _ _ (left_over c.requires l.invariant t.ensures.tried goes c.stored_after-stored.ensures) _
+          (further c.requires l.invariant t.ensures.tried n c.if-not-more.false),
+      subst (Numbers c.args.task.count c.args.first) (sym n.numbers_are) (moved c.requires l.invariant t.ensures.tried).numbers,
+      lent_then l.invariant.2 t.ensures.lent,
     )

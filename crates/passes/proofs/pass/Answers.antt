@@ -8,18 +8,19 @@ use Rattle.grammar.specs.Grammar.{production}
 use Rattle.grammar.specs.Table.{grammar_of}
 use Rattle.parts.specs.Rule.{takes_part}
 use Rattle.rules.specs.Test.{system_in}
-use Rattle.passes.specs.Slices.{slices}
 use Rattle.passes.specs.Follow.{Follows}
+use Rattle.steps.specs.Lent.{held}
+use Rattle.steps.proofs.Lending.{lent_same, lent_then}
 use Rattle.passes.proofs.Following.{kept_roomy}
 use Rattle.passes.proofs.Passing.{through, pass_start, pass_more, pass_stop}
 use Rattle.passes.proofs.pass.Goals as goal
 
 pub loop-number-init : goal.loop-number-init
 loop-number-init c =
-    (search rules, pass_start (system_in c.args.table.now) c.args.room _ _ c.args.run c.requires.2.stored)
+    (search rules, pass_start (system_in c.args.table.now) c.args.room _ _ c.args.run c.requires.2.stored, lent_same _)
 
-pub returns-in-Stopped : goal.returns-in-Stopped
-returns-in-Stopped c =
+pub returns-in-Stopped-clause-follows : goal.returns-in-Stopped-clause-follows
+returns-in-Stopped-clause-follows c =
     let a = c.args in
     let l = c.loop-number in
     pass_stop (system_in a.table.now) a.room (λ p. takes_part a.treed.now a.reached.now (production (grammar_of a.table.now) p)) _ a.run _
@@ -37,16 +38,17 @@ loop-number-preserved c =
     let l = c.loop-number in (
       omega arith,
       pass_more (system_in a.table.now) a.room (λ p. takes_part a.treed.now a.reached.now (production (grammar_of a.table.now) p)) _ a.run _
-          l.now l.number l.invariant.1 _ _ c.turn-now.ensures,
+          l.now l.number l.invariant.1 _ _ c.turn-now.ensures.follows,
+      lent_then l.invariant.2 c.turn-now.ensures.lent,
     )
 
-pub returns : goal.returns
-returns c =
+pub returns-clause-follows : goal.returns-clause-follows
+returns-clause-follows c =
     let a = c.args in
     let l = c.loop-number in
     let e : l.number ≡ a.count = omega arith in
     subst
     (λ (n : ℕ). Follows a.room
     (through (system_in a.table.now) a.room (λ p. takes_part a.treed.now a.reached.now (production (grammar_of a.table.now) p)) (up_from 0 n))
-    (slices a.symbols.now a.graphs.now a.productions.now a.kids.now) a.run (slices l.symbols l.graphs l.productions l.kids) l.now) e
+    (held a.store.now) a.run (held l.store) l.now) e
     l.invariant.1

@@ -5,16 +5,17 @@ use Rattle.grammar.specs.Grammar.{production}
 use Rattle.grammar.specs.Table.{grammar_of}
 use Rattle.parts.specs.Rule.{takes_part}
 use Rattle.rules.specs.Test.{system_in}
-use Rattle.passes.specs.Slices.{slices}
 use Rattle.passes.specs.Follow.{Follows}
+use Rattle.steps.specs.Lent.{held, Lent}
 use Rattle.passes.proofs.Passing.{through}
 use Rattle.passes.proofs.pass.Given as goal
 
 abbrev pub invariant-loop-number : goal.invariant-loop-number
 invariant-loop-number l =
     (l.number ≤ l.count)
-    × Follows l.room (through (system_in l.table) l.room (λ p. takes_part l.treed l.reached (production (grammar_of l.table) p)) (up_from 0 l.number)) (slices l.initial.symbols l.initial.graphs l.initial.productions l.initial.kids) l.initial.now
-    (slices l.symbols l.graphs l.productions l.kids) l.now
+    × Follows l.room (through (system_in l.table) l.room (λ p. takes_part l.treed l.reached (production (grammar_of l.table) p)) (up_from 0 l.number)) (held l.initial.store) l.initial.now
+    (held l.store) l.now
+    × Lent l.initial.store l.store
 
 abbrev pub decreases-loop-number : goal.decreases-loop-number
 decreases-loop-number l =

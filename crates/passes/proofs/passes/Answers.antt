@@ -13,6 +13,7 @@ use Rattle.rules.specs.Test.{system_in}
 use Rattle.passes.specs.Slices.{Slices, room_of, Tells}
 use Rattle.steps.specs.Step.{goes_on}
 use Rattle.passes.specs.Follow.{Follows, Kept, Roomy, unsaid, ending_of}
+use Rattle.steps.proofs.Lending.{lent_same, lent_then}
 use Rattle.passes.proofs.Following.{kept_then, kept_roomy}
 use Rattle.passes.proofs.Reaching.{roomy_start, tells, Reached, reached_start, reached_more, ends_stop, ends_done}
 use Rattle.passes.proofs.passes.Goals as goal
@@ -52,38 +53,42 @@ module _ {W : System} {limit room begun : ℕ} {ps : List ℕ} {σ₀ σ : Slice
 
 pub loop-answer-init : goal.loop-answer-init
 loop-answer-init c =
-    let b = c.going_on-now.ensures in
-    reached_start (system_in c.args.table.now) c.args.limit c.args.room _ _ c.going_on-now.result
-    (ap (λ (x : Run). x.left) b) (ap (λ (x : Run). x.stored) b) (ap (λ (x : Run). x.course) b)
+    let b = c.going_on-now.ensures in (
+      reached_start (system_in c.args.table.now) c.args.limit c.args.room _ _ c.going_on-now.result
+          (ap (λ (x : Run). x.left) b) (ap (λ (x : Run). x.stored) b) (ap (λ (x : Run). x.course) b),
+      lent_same _,
+    )
 
 pub overflow_add-begun : goal.overflow_add-begun
 overflow_add-begun c =
-    let now = roomy c.going_on-now.ensures c.requires.2 c.loop-answer.invariant in
-    omega (arith, c.loop-answer.invariant.few, now.stored, now.small)
+    let now = roomy c.going_on-now.ensures c.requires.2 c.loop-answer.invariant.0 in
+    omega (arith, c.loop-answer.invariant.0.few, now.stored, now.small)
 
 pub pass-now-requires : goal.pass-now-requires
-pass-now-requires c = (c.requires.0, c.requires.1, roomy c.going_on-now.ensures c.requires.2 c.loop-answer.invariant)
+pass-now-requires c = (c.requires.0, c.requires.1, roomy c.going_on-now.ensures c.requires.2 c.loop-answer.invariant.0)
 
 pub ended-requires : goal.ended-requires
-ended-requires c = fits c.going_on-now.ensures c.requires.2 c.loop-answer.invariant c.pass-now.ensures
+ended-requires c = fits c.going_on-now.ensures c.requires.2 c.loop-answer.invariant.0 c.pass-now.ensures.follows
 
-pub returns-in-Stopped : goal.returns-in-Stopped
-returns-in-Stopped c =
-    rw c.ended.ensures (stops c.going_on-now.ensures c.requires.2 c.loop-answer.invariant c.pass-now.ensures _ c.in-Stopped.is)
+pub returns-in-Stopped-clause-tells : goal.returns-in-Stopped-clause-tells
+returns-in-Stopped-clause-tells c =
+    rw c.ended.ensures (stops c.going_on-now.ensures c.requires.2 c.loop-answer.invariant.0 c.pass-now.ensures.follows _ c.in-Stopped.is)
 
 pub ended-requires-then-now-before : goal.ended-requires-then-now-before
-ended-requires-then-now-before c = fits c.going_on-now.ensures c.requires.2 c.loop-answer.invariant c.pass-now.ensures
+ended-requires-then-now-before c = fits c.going_on-now.ensures c.requires.2 c.loop-answer.invariant.0 c.pass-now.ensures.follows
 
-pub returns-then-now-before : goal.returns-then-now-before
-returns-then-now-before c =
+pub returns-then-now-before-clause-tells : goal.returns-then-now-before-clause-tells
+returns-then-now-before-clause-tells c =
     rw c.ended-then-now-before.ensures
-    (done c.going_on-now.ensures c.requires.2 c.loop-answer.invariant c.pass-now.ensures c.in_default.is c.if-now-before.true)
+    (done c.going_on-now.ensures c.requires.2 c.loop-answer.invariant.0 c.pass-now.ensures.follows c.in_default.is c.if-now-before.true)
 
 pub loop-answer-smaller : goal.loop-answer-smaller
 loop-answer-smaller c =
-    let kept = c.pass-now.ensures.kept in
+    let kept = c.pass-now.ensures.follows.kept in
     omega (arith, kept.more, kept.fits, c.if-now-before.false)
 
 pub loop-answer-preserved : goal.loop-answer-preserved
-loop-answer-preserved c =
-    more c.going_on-now.ensures c.requires.2 c.loop-answer.invariant c.pass-now.ensures c.in_default.is c.if-now-before.false
+loop-answer-preserved c = (
+  more c.going_on-now.ensures c.requires.2 c.loop-answer.invariant.0 c.pass-now.ensures.follows c.in_default.is c.if-now-before.false,
+  lent_then c.loop-answer.invariant.1 c.pass-now.ensures.lent,
+)

@@ -4,15 +4,16 @@ use Prim.Native.Nat.{◌-◌}
 use Rattle.numbers.specs.Lists.{up_from}
 use Rattle.grammar.specs.Table.{grammar_of}
 use Rattle.rules.specs.Test.{system_in}
-use Rattle.passes.specs.Slices.{slices}
 use Rattle.passes.specs.Follow.{parts_among}
+use Rattle.steps.specs.Lent.{held, Lent}
 use Rattle.passes.proofs.Reaching.{Reached}
 use Rattle.passes.proofs.passes.Given as goal
 
 abbrev pub invariant-loop-answer : goal.invariant-loop-answer
 invariant-loop-answer l =
-    Reached (system_in l.table) l.limit l.room (parts_among l.treed l.reached (grammar_of l.table) (up_from 0 l.count)) (slices l.initial.symbols l.initial.graphs l.initial.productions l.initial.kids) l.initial.now l.begun
-    (slices l.symbols l.graphs l.productions l.kids) l.now
+    Reached (system_in l.table) l.limit l.room (parts_among l.treed l.reached (grammar_of l.table) (up_from 0 l.count)) (held l.initial.store) l.initial.now l.begun
+    (held l.store) l.now
+    × Lent l.initial.store l.store
 
 abbrev pub decreases-loop-answer : goal.decreases-loop-answer
 decreases-loop-answer l =

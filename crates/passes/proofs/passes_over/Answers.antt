@@ -5,7 +5,8 @@ use Prim.Native.Nat.{ℕ}
 use Rattle.grammar.specs.declared.Header.{Header}
 use Rattle.grammar.specs.Table.{P}
 use Rattle.grammar.specs.Reading.{header_of}
-use Rattle.passes.specs.Slices.{slices}
+use Rattle.steps.specs.Lent.{held}
+use Rattle.passes.specs.Slices.{room_of}
 use Rattle.passes.proofs.Testing.{passes_taken, tells_same}
 use Rattle.passes.proofs.passes_over.Goals as goal
 
@@ -15,13 +16,13 @@ counted bs h n e f = f ∙ ap (λ (h : Header). h.productions) e
 
 pub passes-requires : goal.passes-requires
 passes-requires c =
-    (c.requires, counted c.args.table.now _ _ c.header_of-header.ensures c.wide-count.ensures, c.room_of-room.ensures)
+    (c.requires, counted c.args.table.now _ _ c.header_of-header.ensures c.wide-count.ensures, (c.room-room.ensures ∙ ap room_of c.entries.ensures))
 
-pub returns : goal.returns
-returns c =
+pub returns-clause-tells : goal.returns-clause-tells
+returns-clause-tells c =
     let a = c.args in
     tells_same
-    (passes_taken a.table.now a.limit _ _ c.treed_of-treed.result _ (slices a.symbols.now a.graphs.now a.productions.now a.kids.now) c.requires
-    (counted a.table.now _ _ c.header_of-header.ensures c.wide-count.ensures) c.room_of-room.ensures c.treed_of-treed.ensures
+    (passes_taken a.table.now a.limit _ _ c.treed_of-treed.result _ (held a.store.now) c.requires
+    (counted a.table.now _ _ c.header_of-header.ensures c.wide-count.ensures) (c.room-room.ensures ∙ ap room_of c.entries.ensures) c.treed_of-treed.ensures
     c.reached_of-reached.ensures)
-    c.passes.ensures
+    c.passes.ensures.tells

@@ -10,7 +10,8 @@ use Rattle.rules.specs.declared.Report.{Report}
 use Rattle.rules.specs.Passes.{passes}
 use Rattle.rules.specs.Test.{system_in}
 use Rattle.rules.proofs.Stored.{Counted, counted_passes_in}
-use Rattle.passes.specs.Slices.{Slices, slices, room_of, Tells}
+use Rattle.passes.specs.Slices.{Slices, room_of, Tells}
+use Rattle.steps.specs.Lent.{held}
 use Rattle.passes.proofs.Circles.{saying_told}
 use Rattle.passes.proofs.Told.{entries_fit}
 use Rattle.passes.proofs.Testing.{test_taken, test_refused, tells_refused, tells_same}
@@ -26,8 +27,8 @@ module _ (bs : List ℕ) (limit : ℕ) {σ τ : Slices} {r : Report} (told : Tel
       omega
       (arith, ap (λ (x : Report). x.entries) told.report, stored.count, (entries_fit _ σ r τ stored.sound.slots told).1)
 
-pub returns-in-Refused : goal.returns-in-Refused
-returns-in-Refused c =
+pub returns-in-Refused-clause-tested : goal.returns-in-Refused-clause-tested
+returns-in-Refused-clause-tested c =
     tells_refused _ _ _
     (test_refused c.args.table.now _ _ _ (sym c.check-checked.ensures ∙ c.in-Refused.is))
     c.no_trail.ensures
@@ -36,12 +37,15 @@ pub passes_over-ending-requires : goal.passes_over-ending-requires
 passes_over-ending-requires c = sym c.check-checked.ensures ∙ c.in_default.is
 
 pub reported-requires : goal.reported-requires
-reported-requires c = (sym c.check-checked.ensures ∙ c.in_default.is, fits c.args.table.now c.args.limit c.passes_over-ending.ensures)
+reported-requires c = (
+  sym c.check-checked.ensures ∙ c.in_default.is,
+  omega (arith, fits c.args.table.now c.args.limit c.passes_over-ending.ensures.tells, ap (λ (σ : Slices). length σ.graphs) c.entries.ensures),
+)
 
-pub returns : goal.returns
-returns c =
+pub returns-clause-tested : goal.returns-clause-tested
+returns-clause-tested c =
     let a = c.args in
-    let σ = slices a.symbols.now a.graphs.now a.productions.now a.kids.now in
-    let told = c.passes_over-ending.ensures in
+    let σ = held a.store.now in
+    let told = c.passes_over-ending.ensures.tells in
     tells_same (test_taken a.table.now a.limit (room_of σ) (sym c.check-checked.ensures ∙ c.in_default.is))
-    (saying_told a.table.now _ σ _ _ (stored a.table.now a.limit told).count told c.reported.ensures)
+    (saying_told a.table.now _ σ _ _ (stored a.table.now a.limit told).count told (rw (ap (λ (σ : Slices). σ.graphs) c.entries.ensures) at c.reported.ensures))

@@ -51,7 +51,12 @@ module _ (bs : List ℕ) (good : refusal bs ≡ Good) (p room : ℕ) (σ : Slice
   made : task_of p found room ≡ task_of p (production (grammar_of bs) p) room
   made = ap (λ (x : Production). task_of p x room) read
 
-  module _ {n : ℕ} (all : n ≡ found.n) {more : Bool} {firsts : List ℕ} (looked : Found (first_of n) more firsts) where
+  -- in what the store holds
+  module _ {n : ℕ} (all : n ≡ found.n) {symbols firsts : List ℕ} {more : Bool} (same : symbols ≡ σ.symbols)
+      (found_in : Found (firsts_to symbols found.slots run.stored n (replicate 7 0)) more firsts) where
+    looked : Found (first_of n) more firsts
+    looked = subst (λ (xs : List ℕ). Found (firsts_to xs found.slots run.stored n (replicate 7 0)) more firsts) same found_in
+
     -- there is none
     nothing : more ≡ false → Follows room (λ limit. turn (system_in bs) limit room p) σ run σ run
     unfolding task_of
@@ -84,17 +89,17 @@ told treed reached found asked b read e = e ∙ ap (takes_part treed reached) re
 pub overflow_cast-first : goal.overflow_cast-first
 overflow_cast-first c = omega (arith, c.requires.2.stored, c.requires.2.small)
 
-pub returns-then-not-first_candidates : goal.returns-then-not-first_candidates
-returns-then-not-first_candidates c =
+pub returns-then-not-first_candidates-clause-follows : goal.returns-then-not-first_candidates-clause-follows
+returns-then-not-first_candidates-clause-follows c =
     let a = c.args in
     let p = c.production_of-production in
     part_still (system_in a.table.now) a.room (λ i. takes_part a.treed.now a.reached.now (production (grammar_of a.table.now) i)) a.number _
     a.run c.requires.2.stored
     (nothing a.table.now c.requires.0 a.number a.room _ a.run c.requires.2 p.result p.ensures c.wide-count.ensures
-    c.first_candidates.ensures c.if-not-first_candidates.true)
+    (ap (λ (σ : Slices). σ.symbols) c.entries.ensures) c.first_candidates.ensures c.if-not-first_candidates.true)
 
-pub returns-then-not-takes_part : goal.returns-then-not-takes_part
-returns-then-not-takes_part c =
+pub returns-then-not-takes_part-clause-follows : goal.returns-then-not-takes_part-clause-follows
+returns-then-not-takes_part-clause-follows c =
     let a = c.args in
     let p = c.production_of-production in
     let part = told a.treed.now a.reached.now p.result _ _ p.ensures c.takes_part.ensures in
@@ -110,18 +115,19 @@ combine-requires c =
     let p = c.production_of-production in
     let k = c.task_of-task in
     let looked = c.first_candidates.ensures in
+    let same = ap (λ (σ : Slices). σ.symbols) c.entries.ensures in
     let some = c.if-not-first_candidates.false in (
       turn_ready a.table.now c.requires.0 a.number a.room _ a.run c.requires.2 k.result
           (k.ensures ∙ made a.table.now c.requires.0 a.number a.room _ a.run c.requires.2 p.result p.ensures) p.result.slots
           (slots_are a.table.now c.requires.0 a.number a.room _ a.run c.requires.2 p.result p.ensures),
-      numbers a.table.now c.requires.0 a.number a.room _ a.run c.requires.2 p.result p.ensures c.wide-count.ensures looked some k.result
+      numbers a.table.now c.requires.0 a.number a.room _ a.run c.requires.2 p.result p.ensures c.wide-count.ensures same looked some k.result
           k.ensures,
-      each a.table.now c.requires.0 a.number a.room _ a.run c.requires.2 p.result p.ensures c.wide-count.ensures looked some k.result
+      each a.table.now c.requires.0 a.number a.room _ a.run c.requires.2 p.result p.ensures c.wide-count.ensures same looked some k.result
           k.ensures,
     )
 
-pub returns : goal.returns
-returns c =
+pub returns-clause-follows : goal.returns-clause-follows
+returns-clause-follows c =
     let a = c.args in
     let p = c.production_of-production in
     let k = c.task_of-task in
@@ -131,4 +137,4 @@ returns c =
     (task_turn a.table.now c.requires.0 a.number a.room _ a.run k.result
     (k.ensures ∙ made a.table.now c.requires.0 a.number a.room _ a.run c.requires.2 p.result p.ensures) p.result.slots
     (slots_are a.table.now c.requires.0 a.number a.room _ a.run c.requires.2 p.result p.ensures) _ c.run_of-edges.ensures _ _
-    (follows_going k.result.room _ _ a.run _ _ c.requires.3 c.combine.ensures))
+    (follows_going k.result.room _ _ a.run _ _ c.requires.3 c.combine.ensures.follows))
