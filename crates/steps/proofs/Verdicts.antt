@@ -1,5 +1,5 @@
 -- The verdict by its tests, and what a verdict says of them. Assumes nothing.
-use mathlib.Core.Path.{◌≡◌, refl, sym}
+use mathlib.Core.Path.{◌≡◌, refl, sym, ap, ◌∙◌}
 use mathlib.Core.Bool.{Bool, true, false, false≢true}
 use mathlib.Core.List.{List}
 use Prim.Native.Nat.{ℕ, ◌≤◌, ◌<◌}
@@ -12,7 +12,8 @@ use Rattle.steps.specs.declared.Task.{Task}
 use Rattle.steps.specs.declared.Verdict.{Verdict}
 use Rattle.steps.specs.declared.Verdict.TheVariants.{Steps, Circle, Known, Full, New}
 use Rattle.steps.specs.Slices.{Slices, put_in}
-use Rattle.steps.specs.Step.{seen_in, least, verdict, judged, counts, stores, entry_of, slices_at}
+use Rattle.std.specs.Prelude.{Result, Ok, Err}
+use Rattle.steps.specs.Step.{graph_or, seen_in, least, verdict, judged, counts, stores, entry_of, slices_at}
 
 -- from the answers of the four tests
 pub judged_by : (k : Task) (edges symbols graphs : List ℕ) (left stored : ℕ) (picked : List ℕ) (steps circle known full : Bool) (graph n : ℕ)
@@ -68,9 +69,40 @@ module _ (k : Task) (graph : ℕ) (picked : List ℕ) (stored : ℕ) (σ : Slice
   slices_same Full h = refl
   slices_same New h = absurd (false≢true (sym h))
 
-pub is_stored : (v : Verdict) → stores v ≡ true → v ≡ New
-is_stored Steps h = absurd (false≢true h)
-is_stored Circle h = absurd (false≢true h)
-is_stored Known h = absurd (false≢true h)
-is_stored Full h = absurd (false≢true h)
-is_stored New h = refl
+-- ---- what comes of the first five steps
+
+abbrev graph_in : Result ℕ Verdict → ℕ
+graph_in (Ok graph) = graph
+graph_in (Err v) = 0
+
+abbrev verdict_in : Result ℕ Verdict → Verdict
+verdict_in (Ok graph) = New
+verdict_in (Err v) = v
+
+abbrev is_graph : Result ℕ Verdict → Bool
+is_graph (Ok graph) = true
+is_graph (Err v) = false
+
+module _ (g : ℕ) where
+  verdict_of : (v : Verdict) → verdict_in (graph_or g v) ≡ v
+  verdict_of Steps = refl
+  verdict_of Circle = refl
+  verdict_of Known = refl
+  verdict_of Full = refl
+  verdict_of New = refl
+
+  stored_by : (v : Verdict) → is_graph (graph_or g v) ≡ stores v
+  stored_by Steps = refl
+  stored_by Circle = refl
+  stored_by Known = refl
+  stored_by Full = refl
+  stored_by New = refl
+
+  module _ {v : Verdict} where
+    pub graph_given : {h : ℕ} → Ok h ≡ graph_or g v → (New ≡ v) × (h ≡ g)
+    graph_given e =
+        let new : New ≡ v = ap verdict_in e ∙ verdict_of v in
+        (new, ap graph_in (e ∙ ap (graph_or g) (sym new)))
+
+    pub verdict_given : {w : Verdict} → Err w ≡ graph_or g v → (w ≡ v) × (stores v ≡ false)
+    verdict_given e = (ap verdict_in e ∙ verdict_of v, sym (stored_by v) ∙ sym (ap is_graph e))

@@ -1,5 +1,5 @@
 -- The six steps for one combination over the slices, where the closures that are left are counted down. Assumes nothing.
-use Rattle.std.specs.Prelude.{Bool, true, false, List, ◌≡◌, ℕ, ◌+◌, ◌-◌, min, eqb, length, get_or}
+use Rattle.std.specs.Prelude.{Result, Ok, Err, Bool, true, false, List, ◌≡◌, ℕ, ◌+◌, ◌-◌, min, eqb, length, get_or}
 use Rattle.numbers.specs.Lists.{both, some_below}
 use Rattle.grammar.specs.Table.{attributes}
 use Rattle.graph.specs.Rows.{has_circle, root_graph}
@@ -13,7 +13,6 @@ use Rattle.steps.specs.declared.Run.{Run}
 use Rattle.steps.specs.declared.Task.{Task}
 use Rattle.steps.specs.declared.Verdict.{Verdict}
 use Rattle.steps.specs.declared.Verdict.TheVariants.{Steps, Circle, Known, Full, New}
-use Rattle.steps.specs.declared.Judged.{Judged}
 use Rattle.steps.specs.Slices.{Slices, put_in}
 
 -- ---- a run that goes on, and one that has stopped
@@ -48,10 +47,17 @@ judged k edges symbols graphs left stored picked =
     verdict (eqb left 0) (has_circle closed) (seen_in symbols graphs k.symbol (root_graph attributes closed) (least symbols graphs stored))
     (eqb stored k.room)
 
--- the verdict and, where the combination is new, its graph
-pub record Judges (k : Task) (edges : List ℕ) (σ : Slices) (left stored : ℕ) (picked : List ℕ) (j : Judged) : Type 0 where
-  pub verdict_is : j.verdict ≡ judged k edges σ.symbols σ.graphs left stored picked
-  pub graph_is : j.verdict ≡ New → j.graph ≡ root_graph attributes (closed_in edges σ.graphs k.count picked)
+-- where the combination is new, its graph, and else the verdict
+abbrev pub graph_or : ℕ → Verdict → Result ℕ Verdict
+graph_or graph Steps = Err Steps
+graph_or graph Circle = Err Circle
+graph_or graph Known = Err Known
+graph_or graph Full = Err Full
+graph_or graph New = Ok graph
+
+abbrev pub Judges : Task → List ℕ → Slices → ℕ → ℕ → List ℕ → Result ℕ Verdict → Type 0
+Judges k edges σ left stored picked r =
+    r ≡ graph_or (root_graph attributes (closed_in edges σ.graphs k.count picked)) (judged k edges σ.symbols σ.graphs left stored picked)
 
 -- ---- what is done
 

@@ -6,7 +6,7 @@ ghost use Rattle.std.specs.Prelude.{◌≡◌, ◌+◌, ◌≤◌, min, length, 
 ghost use Rattle.std.proofs.lemmas.List.Edits.{sets};
 ghost use Rattle.steps.specs.Slices.{room_for, room_of, entry_in, put_in, slices};
 ghost use Rattle.steps.specs.Lent.{held, read, Lent};
-ghost use Rattle.steps.specs.Step.{goes_on, stops, seen_in, least, Judges, stores, Tried};
+ghost use Rattle.steps.specs.Step.{goes_on, stops, seen_in, least, Judges, Tried};
 
 use grammar::SLOTS;
 use rules::{Answer, Entry, MOST_ENTRIES};
@@ -143,13 +143,6 @@ pub enum Verdict {
     New,
 }
 
-// The graph that the closure gives stands beside the verdict: a wider one would be an array, which no enum holds.
-#[derive(Clone, Copy)]
-struct Judged {
-    verdict: Verdict,
-    graph: u64,
-}
-
 // How many entries slices of these lengths hold.
 pub fn room_of(symbols: usize, graphs: usize, productions: usize, kids: usize) -> usize
     ensures { result ≡ room_for symbols graphs productions kids }
@@ -182,7 +175,7 @@ pub fn entry_of(
     entries.entry(i)
 }
 
-// Steps 1 to 5.
+// Steps 1 to 5: the graph of a new entry, or the verdict by which none is stored.
 fn judge(
     entries: Entries<'_>,
     edges: &[u8],
@@ -190,39 +183,23 @@ fn judge(
     picked: &[u16; SLOTS],
     left: u32,
     stored: usize,
-) -> Judged
+) -> Result<u64, Verdict>
     ensures { Judges task edges.now (read entries.entry) left stored picked.now result }
 {
     if left == 0 {
-        return Judged {
-            verdict: Verdict::Steps,
-            graph: 0,
-        };
+        return Err(Verdict::Steps);
     }
     let made = closures::closure(edges, entries.graphs, picked, task.count);
-    let graph = made.graph;
     if made.circle {
-        return Judged {
-            verdict: Verdict::Circle,
-            graph,
-        };
+        return Err(Verdict::Circle);
     }
-    if entries.seen(task.symbol, graph, stored) {
-        return Judged {
-            verdict: Verdict::Known,
-            graph,
-        };
+    if entries.seen(task.symbol, made.graph, stored) {
+        return Err(Verdict::Known);
     }
     if stored == task.room {
-        return Judged {
-            verdict: Verdict::Full,
-            graph,
-        };
+        return Err(Verdict::Full);
     }
-    Judged {
-        verdict: Verdict::New,
-        graph,
-    }
+    Ok(made.graph)
 }
 
 // A run that goes on, with so many closures left and so many entries stored.
@@ -249,18 +226,6 @@ pub fn stopped(answer: Answer, root: [u16; SLOTS], left: u32, stored: usize) -> 
     }
 }
 
-fn is_new(verdict: Verdict) -> bool
-    ensures { result ≡ stores verdict }
-{
-    match verdict {
-        Verdict::Steps => false,
-        Verdict::Circle => false,
-        Verdict::Known => false,
-        Verdict::Full => false,
-        Verdict::New => true,
-    }
-}
-
 // The six steps for one combination of the first `stored` entries, where `left` closures are left.
 pub fn try_one(
     store: &mut Store<'_>,
@@ -273,17 +238,19 @@ pub fn try_one(
     ensures tried { Tried task edges.now picked.now left stored (held store.old) result (held store.new) }
     ensures lent { Lent store.old store.new }
 {
-    let judged = judge(store.entries(), edges, task, picked, left, stored);
-    if is_new(judged.verdict) {
-        store.put(
-            stored,
-            Entry {
-                symbol: task.symbol,
-                graph: judged.graph,
-                production: task.number,
-                kids: *picked,
-            },
-        );
+    match judge(store.entries(), edges, task, picked, left, stored) {
+        Err(verdict) => verdict,
+        Ok(graph) => {
+            store.put(
+                stored,
+                Entry {
+                    symbol: task.symbol,
+                    graph,
+                    production: task.number,
+                    kids: *picked,
+                },
+            );
+            Verdict::New
+        }
     }
-    judged.verdict
 }
