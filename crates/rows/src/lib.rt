@@ -4,6 +4,7 @@
 ghost use Rattle.std.specs.Prelude.{◌≡◌, set};
 ghost use Rattle.rules.specs.Passes.{entry, no_entry};
 
+use grammar::SLOTS;
 use rules::Entry;
 
 fn no_entry() -> Entry
@@ -13,7 +14,7 @@ fn no_entry() -> Entry
         symbol: 0,
         graph: 0,
         production: 0,
-        kids: [0; 7],
+        kids: [0; SLOTS],
     }
 }
 
@@ -21,10 +22,7 @@ fn no_entry() -> Entry
 pub fn entry_at(entries: &[Entry], at: usize) -> Entry
     ensures { result ≡ entry entries.now at }
 {
-    if at < entries.len() {
-        return entries[at];
-    }
-    no_entry()
+    entries.get(at).copied().unwrap_or(no_entry())
 }
 
 // Stores an entry at a place of the row; past its end nothing changes.
