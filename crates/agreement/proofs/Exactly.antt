@@ -1,5 +1,5 @@
 -- A result that is true exactly if a statement holds, and when two values are the same. Assumes nothing.
-use mathlib.Core.Path.{◌≡◌, refl, sym, ap, ◌∙◌}
+use mathlib.Core.Path.{◌≡◌, refl, sym, ap}
 use mathlib.Core.Bool.{Bool, true, false, true≢false}
 use mathlib.Core.Logic.{◌↔◌}
 use Rattle.rules.specs.declared.Report.{Report}
@@ -19,13 +19,6 @@ pub one_truth : {P : Type 0} (x y : Bool) → (x ≡ true) ↔ P → (y ≡ true
 one_truth true y a b = sym (b.1 (a.0 refl))
 one_truth false true a b = a.1 (b.0 refl)
 one_truth false false a b = refl
-
--- a test that is true exactly if P holds has said no, or yes
-pub said_no : {P : Type 0} (b : Bool) → (b ≡ true) ↔ P → b ≡ false → ¬ P
-said_no b t h p = true≢false (sym (t.1 p) ∙ h)
-
-pub said_yes : {P : Type 0} (b : Bool) → (b ≡ true) ↔ P → b ≡ true → P
-said_yes b t h = t.0 h
 
 -- what `==` says of two reports
 pub same_report : (x y : Report) (b : Bool) → b ≡ report.eq-value.it x y → (b ≡ true) ↔ (x ≡ y)

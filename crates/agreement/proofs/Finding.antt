@@ -1,15 +1,16 @@
 -- Where an entry is first found in a row, if no earlier one has its symbol and graph. Assumes nothing.
-use mathlib.Core.Path.{◌≡◌, refl, sym, ap, ◌∙◌}
-use mathlib.Core.Bool.{true≢false}
+use mathlib.Core.Path.{◌≡◌, refl, ap, ◌∙◌}
+use mathlib.Core.Bool.{Bool, true, false}
 use mathlib.Core.List.{List}
-use mathlib.Core.Logic.{⊎_elim}
-use Prim.Native.Nat.{ℕ, ◌≤◌, ◌<◌}
-use native.Mathlib.Decide.{dec_lt}
-use native.Mathlib.Nat.{eq-or-lt_of_le}
+use Prim.Native.Nat.{ℕ, ◌<◌}
 use native.Mathlib.Omega.{arith}
-use lib.ListN.{length, take}
+use lib.ListN.{length, get_or, take}
 use lib.Seq.{length-take-le, get_or-take, take_all}
-use Rattle.numbers.proofs.Decides.{Decides, eq_decides, both_decides}
+use borrow.Author.Rules.{rules}
+use borrow.Author.Tests.{lt-ltb, le-ltb}
+use Rattle.std.specs.Prelude.{Some, None, position}
+use Rattle.std.proofs.lemmas.List.Sums.{position_or_len_is}
+use Rattle.numbers.proofs.Decides.{Decides, not_so}
 use Rattle.grammar.specs.declared.Checked.{Checked}
 use Rattle.grammar.specs.declared.Checked.TheVariants.{Good, Refused as Bad}
 use Rattle.grammar.specs.Table.{width_of, grammar_of}
@@ -21,7 +22,6 @@ use Rattle.rules.specs.Test.{system_in, saying, after_check, test}
 use Rattle.orders.specs.Stored.{Different}
 use Rattle.orders.proofs.Answers.{outcome_sound}
 use Rattle.lookups.specs.Lookup.{of}
-use Rattle.lookups.proofs.First.{First, first_is}
 use Rattle.agreement.specs.Agreement.{place_of}
 
 -- no two entries that the test stores have the same symbol and graph
@@ -35,7 +35,17 @@ different_test bs limit room = go (refusal bs)
     go (Bad b) = λ i j l m s g. absurd (omega arith)
 
 of_decides : (s g : ℕ) (e : Entry) → Decides (of s g e) ((e.symbol ≡ s) × (e.graph ≡ g))
-of_decides s g e = both_decides (eq_decides e.symbol s) (eq_decides e.graph g)
+of_decides s g e = record { so = λ h. search rules; passes = λ p. search rules }
+
+-- ---- where the first element is that passes a test
+module _ {A : Type 0} (p : A → Bool) (xs : List A) where
+  pub found_at : (i : ℕ) (d : A) → i < length xs → ((j : ℕ) → j < i → p (get_or xs j d) ≡ false) → p (get_or xs i d) ≡ true → position p xs ≡ Some i
+  found_at i d l none hit = let e = position_or_len_is p xs i d (omega (arith, l)) none (λ m. hit) in rw (e, lt-ltb i (length xs) l)
+
+  pub found_nowhere : (d : A) → ((j : ℕ) → j < length xs → p (get_or xs j d) ≡ false) → position p xs ≡ None
+  found_nowhere d none =
+      let e = position_or_len_is p xs (length xs) d (omega arith) none (λ m. absurd (omega arith)) in
+      rw (e, le-ltb (length xs) (length xs) (omega arith))
 
 -- no entry of the row before i has the symbol and the graph of e
 abbrev pub NewAt : Entry → List Entry → ℕ → Type 0
@@ -45,34 +55,18 @@ module _ (es : List Entry) (i : ℕ) (within : i < length es) (new : NewAt (entr
   abbrev e : Entry
   e = entry es i
 
-  -- it is found at its own place
-  pub found_here : place_of e (take (length es) es) ≡ i
-  found_here = ap (place_of e) (take_all (length es) es (omega arith)) ∙ go (first_is e.symbol e.graph es)
-    where
-      at_most : First e.symbol e.graph es (place_of e es) → Dec (i < place_of e es) → place_of e es ≤ i
-      at_most first (yes l) = absurd (true≢false (sym ((of_decides e.symbol e.graph e).passes (refl, refl)) ∙ first.earlier i l))
-      at_most first (no f) = omega (arith, f)
+  other : (j : ℕ) → j < i → of e.symbol e.graph (entry es j) ≡ false
+  other j l = not_so (of_decides e.symbol e.graph (entry es j)) (λ p. new j l p.0 p.1)
 
-      go : First e.symbol e.graph es (place_of e es) → place_of e es ≡ i
-      go first =
-          ⊎_elim (λ same. same)
-          (λ before.
-          let p = (of_decides e.symbol e.graph (entry es (place_of e es))).so (first.found (omega (arith, before, within))) in
-          absurd (new (place_of e es) before p.0 p.1))
-          (eq-or-lt_of_le (at_most first (dec_lt i (place_of e es))))
+  -- it is found at its own place
+  pub found_here : place_of e (take (length es) es) ≡ Some i
+  found_here =
+      ap (place_of e) (take_all (length es) es (omega arith))
+      ∙ found_at (of e.symbol e.graph) es i no_entry within other ((of_decides e.symbol e.graph e).passes (refl, refl))
 
   -- and not among those before it
-  pub not_before : place_of e (take i es) ≡ i
-  not_before = go (first_is e.symbol e.graph (take i es))
-    where
-      long : length (take i es) ≡ i
-      long = length-take-le i es (omega (arith, within))
-
-      go : First e.symbol e.graph (take i es) (place_of e (take i es)) → place_of e (take i es) ≡ i
-      go first =
-          ⊎_elim (λ same. same)
-          (λ before.
-          let p = (of_decides e.symbol e.graph (entry (take i es) (place_of e (take i es)))).so (first.found (omega (arith, before, long))) in
-          let there : entry (take i es) (place_of e (take i es)) ≡ entry es (place_of e (take i es)) = get_or-take i es (place_of e (take i es)) no_entry before in
-          absurd (new (place_of e (take i es)) before (ap (λ (x : Entry). x.symbol) (sym there) ∙ p.0) (ap (λ (x : Entry). x.graph) (sym there) ∙ p.1)))
-          (eq-or-lt_of_le (omega (arith, first.within, long)))
+  pub not_before : place_of e (take i es) ≡ None
+  not_before =
+      let long : length (take i es) ≡ i = length-take-le i es (omega (arith, within)) in
+      found_nowhere (of e.symbol e.graph) (take i es) no_entry
+      (λ j l. let m : j < i = omega (arith, l, long) in ap (of e.symbol e.graph) (get_or-take i es j no_entry m) ∙ other j m)

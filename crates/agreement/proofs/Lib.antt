@@ -1,6 +1,5 @@
 -- Laws that belong to no one function.
 pub mod Exactly
-pub mod Telling
 pub mod Rowing
 pub mod Finding
 pub mod Agreeing

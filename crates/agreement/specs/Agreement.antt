@@ -1,6 +1,6 @@
 -- How a row of records that was blank before the test is compared with parallel slices, in which so many entries are stored. The promise of
 -- `agrees` needs none of this. Assumes nothing.
-use Rattle.std.specs.Prelude.{Option, Some, List, ◌↔◌, ◌≡◌, ℕ, ◌≤◌, ◌<◌, length, take, replicate}
+use Rattle.std.specs.Prelude.{Option, Some, None, List, ◌↔◌, ◌≡◌, ℕ, ◌≤◌, ◌<◌, length, take, replicate}
 use Rattle.numbers.specs.Lists.{written}
 use Rattle.rules.specs.declared.Entry.{Entry}
 use Rattle.rules.specs.declared.Report.{Report}
@@ -13,12 +13,12 @@ abbrev pub blank_entry : Entry
 blank_entry = record { symbol = 65535; graph = 0; production = 65535; kids = replicate 7 65535 }
 
 -- the record e at i, which is found first at `first`, and among those before it at `before`, where n are stored
-pub record AsTold (σ : Slices) (n i first before : ℕ) (e : Entry) : Type 0 where
-  pub stored : i < n → (i < room_of σ) × (first ≡ i) × (before ≡ i) × (e ≡ entry_at σ i)
+pub record AsTold (σ : Slices) (n i : ℕ) (first before : Option ℕ) (e : Entry) : Type 0 where
+  pub stored : i < n → (i < room_of σ) × (first ≡ Some i) × (before ≡ None) × (e ≡ entry_at σ i)
   pub rest : n ≤ i → e ≡ blank_entry
 
 -- the first place in some entries of the symbol and the graph of e
-abbrev pub place_of : Entry → List Entry → ℕ
+abbrev pub place_of : Entry → List Entry → Option ℕ
 place_of e es = first_of e.symbol e.graph es
 
 -- each record of the row

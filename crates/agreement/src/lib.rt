@@ -25,8 +25,8 @@ fn blank() -> Entry
 // and not before; after the stored ones a blank record.
 fn as_told<'a>(
     e: Entry,
-    first: usize,
-    before: usize,
+    first: Option<usize>,
+    before: Option<usize>,
     at: usize,
     stored: u16,
     symbols: &'a [u16],
@@ -36,19 +36,13 @@ fn as_told<'a>(
 ) -> bool
     ensures { (result ≡ true) ↔ AsTold (slices symbols.now graphs.now productions.now kids.now) stored at first before e }
 {
-    if numbers::wide(stored) <= at {
+    if usize::from(stored) <= at {
         return e == blank();
     }
-    if steps::room_of(symbols.len(), graphs.len(), productions.len(), kids.len()) <= at {
-        return false;
-    }
-    if first != at {
-        return false;
-    }
-    if before != at {
-        return false;
-    }
-    e == steps::entry_of(symbols, graphs, productions, kids, at)
+    at < steps::room_of(symbols.len(), graphs.len(), productions.len(), kids.len())
+        && first == Some(at)
+        && before.is_none()
+        && e == steps::entry_of(symbols, graphs, productions, kids, at)
 }
 
 // Whether each record of the row is what it should be.
@@ -62,13 +56,11 @@ fn alike<'e, 'a>(
 ) -> bool
     ensures { (result ≡ true) ↔ Alike (slices symbols.now graphs.now productions.now kids.now) stored entries.now }
 {
-    let mut at: usize = 0;
-    while at < entries.len() {
-        let e = rows::entry_at(entries, at);
+    for (at, e) in entries.iter().enumerate() {
         let first = lookups::lookup(entries, entries.len(), e.symbol, e.graph);
         let before = lookups::lookup(entries, at, e.symbol, e.graph);
         if !as_told(
-            e,
+            *e,
             first,
             before,
             at,
@@ -80,7 +72,6 @@ fn alike<'e, 'a>(
         ) {
             return false;
         }
-        at += 1;
     }
     true
 }
@@ -103,11 +94,7 @@ fn try_row<'t, 'a>(
 {
     let mut row = [e; MOST_ENTRIES];
     let report = records::test(table, limit, &mut row[..room]);
-    if alike(&row, report.entries, symbols, graphs, productions, kids) {
-        Some(report)
-    } else {
-        None
-    }
+    alike(&row, report.entries, symbols, graphs, productions, kids).then_some(report)
 }
 
 // Whether the test over a row of records, with room for so many and for 4,096 at most, gives this report and leaves the entries that stand

@@ -2,32 +2,16 @@
 #![tactic(auto)]
 
 ghost use Rattle.std.specs.Prelude.{◌≡◌, take};
-ghost use Rattle.lookups.specs.Lookup.{of, first_of};
+ghost use Rattle.lookups.specs.Lookup.{first_of};
 
 use rules::Entry;
 
-// Whether it is an entry of this symbol with this graph.
-fn is_of(e: Entry, symbol: u16, graph: u64) -> bool
-    ensures { result ≡ of symbol graph e }
-{
-    if e.symbol == symbol {
-        e.graph == graph
-    } else {
-        false
-    }
-}
-
-// The number of the first of the first n entries that is of this symbol with this graph; where there is none, how many they are.
-pub fn lookup(entries: &[Entry], n: usize, symbol: u16, graph: u64) -> usize
+// The number of the first of the first n entries that is of this symbol with this graph, if there is one.
+pub fn lookup(entries: &[Entry], n: usize, symbol: u16, graph: u64) -> Option<usize>
     ensures { result ≡ first_of symbol graph (take n entries.now) }
 {
-    let count = numbers::smaller(n, entries.len());
-    let mut i: usize = 0;
-    while i < count {
-        if is_of(entries[i], symbol, graph) {
-            return i;
-        }
-        i += 1;
-    }
-    count
+    entries
+        .iter()
+        .take(n)
+        .position(|e| e.symbol == symbol && e.graph == graph)
 }

@@ -1,6 +1,6 @@
 -- `agreement::alike` meets its promise. The invariant: each record before the place is as told. Assumes nothing.
 use mathlib.Core.List.{List}
-use Prim.Native.Nat.{ℕ, ◌-◌, ◌<◌}
+use Prim.Native.Nat.{ℕ, ◌<◌}
 use lib.ListN.{length, take}
 use Rattle.rules.specs.declared.Entry.{Entry}
 use Rattle.rules.specs.Passes.{entry}
@@ -14,6 +14,3 @@ AlikeAt σ n ys i = AsTold σ n i (place_of (entry ys i) (take (length ys) ys)) 
 
 abbrev pub invariant-loop-at : goal.invariant-loop-at
 invariant-loop-at l = (j : ℕ) → j < l.at → AlikeAt (slices l.symbols l.graphs l.productions l.kids) l.stored l.entries j
-
-abbrev pub decreases-loop-at : goal.decreases-loop-at
-decreases-loop-at l = length l.entries - l.at

@@ -1,10 +1,11 @@
 -- `agreement::try_row` meets its promise: what the test over the front of the row has left, with the rest of the row behind it. Assumes
 -- nothing.
 use mathlib.Core.Bool.{Bool, true, false, true≢false}
-use Rattle.std.specs.Prelude.{Some, None}
+use Rattle.std.specs.Prelude.{Some}
+use Rattle.std.specs.Bool.{then_some}
 use mathlib.Core.List.{List, ◌++◌}
 use mathlib.Core.Logic.{◌↔◌}
-use mathlib.Core.Path.{◌≡◌, sym, ap, ◌∙◌}
+use mathlib.Core.Path.{◌≡◌, refl, sym, ap, ◌∙◌}
 use Prim.Native.Nat.{ℕ, ◌≤◌}
 use native.Mathlib.Omega.{arith}
 use lib.ListN.{length, take, drop}
@@ -49,28 +50,18 @@ module _ (bs : List ℕ) (limit k : ℕ) (few : k ≤ 4096) (e : Entry) (σ : Sl
         ∙ written_front out.entries xs k counted.sound.fits within
 
     -- where it is found alike the report is given, else none is
-    given : (t : Bool) → (t ≡ true) ↔ Alike σ r.entries (zs ++ drop k xs) → t ≡ true → Tries out e σ (Some r)
-    given t same h x = (
-      λ g. let w : r ≡ x = cc in (sym w ∙ report_is, rw (ap (λ (y : Report). y.entries) report_is, after_is) at (same.0 h)),
+    tries : (t : Bool) → (t ≡ true) ↔ Alike σ r.entries (zs ++ drop k xs) → Tries out e σ (then_some t r)
+    tries true same x = (
+      λ g. let w : r ≡ x = cc in (sym w ∙ report_is, rw (ap (λ (y : Report). y.entries) report_is, after_is) at (same.0 refl)),
       λ w. ap Some (report_is ∙ sym w.0),
     )
+    tries false same x = (λ g. absurd (cc), λ w. absurd (true≢false (sym (same.1 (rw (ap (λ (y : Report). y.entries) report_is, after_is) w.1)))))
 
-    withheld : (t : Bool) → (t ≡ true) ↔ Alike σ r.entries (zs ++ drop k xs) → t ≡ false → Tries out e σ None
-    withheld t same h x = (
-      λ g. absurd (cc),
-      λ w. absurd (true≢false (sym (same.1 (rw (ap (λ (y : Report). y.entries) report_is, after_is) w.1)) ∙ h)),
-    )
-
-pub returns-then-alike : goal.returns-then-alike
+pub returns : goal.returns
 unfolding row_of
-returns-then-alike c =
+returns c =
     let a = c.args in
-    given a.table.now a.limit a.room c.requires a.e (slices a.symbols.now a.graphs.now a.productions.now a.kids.now) c.test-report.result
-    c.test-report.new.entries c.test-report.ensures c.alike.result c.alike.ensures c.if-alike.true
-
-pub returns-else-alike : goal.returns-else-alike
-unfolding row_of
-returns-else-alike c =
-    let a = c.args in
-    withheld a.table.now a.limit a.room c.requires a.e (slices a.symbols.now a.graphs.now a.productions.now a.kids.now) c.test-report.result
-    c.test-report.new.entries c.test-report.ensures c.alike.result c.alike.ensures c.if-alike.false
+    let given =
+    tries a.table.now a.limit a.room c.requires a.e (slices a.symbols.now a.graphs.now a.productions.now a.kids.now) c.test-report.result
+    c.test-report.new.entries c.test-report.ensures _ c.alike.ensures in
+    rw c.then_some.ensures given
