@@ -2,11 +2,11 @@
 use Rattle.std.proofs.Common.{◌≡◌, List, [], ◌++◌, ℕ, ◌≤◌, ◌<◌, ◌∙◌, length, take, sym, ap, subst, arith, take_all, length-take-le, append-nil}
 use native.Mathlib.Decide.{dec_le}
 use lib.Seq.{take-append-le}
-use Rattle.std.specs.Prelude.{Option, None, Some}
+use Rattle.std.specs.Prelude.{Option, None, Some, Result, Ok, Err, MatchResult}
 use Rattle.std.specs.Io.KnownBytes.{Appends}
 use Rattle.answers.proofs.Longer.{whole_input}
-use Rattle.circ.specs.declared.Ended.TheVariants.{Printed}
-use Rattle.circ.specs.declared.Input.TheVariants.{Bytes}
+use Rattle.circ.specs.declared.Failure.{Failure}
+use Rattle.circ.specs.declared.Failure.TheVariants.{Unwritten}
 use Rattle.circ.specs.Whole.{limit, room, table_bytes, circ_text, Taken, Answered}
 
 pub first_bytes : (input : List ℕ) → circ_text (take table_bytes input) ≡ circ_text input
@@ -32,9 +32,12 @@ same_text input rest buf n full most is ends = go (dec_le (length buf) n)
         ap circ_text (sym front) ∙ first_bytes input
     go (no f) = ap circ_text (sym (is ∙ ap (λ r. first ++ r) (ends (omega arith)) ∙ append-nil first))
 
-pub answered : (input left old new : Option (List ℕ)) (n : ℕ) (buf : List ℕ) → table_bytes ≡ length buf → n ≤ length buf
-    → Taken input left (Bytes n) buf → Appends old new (circ_text (take n buf)) → Answered input old new Printed
-answered None left old new n buf full most taken put = tt
-answered (Some input) None old new n buf full most (taken, ends) put = absurd taken
-answered (Some input) (Some rest) old new n buf full most (taken, ends) put =
+-- what was printed of what was read answers for the whole input
+pub answered : (input left old new : Option (List ℕ)) (n : ℕ) (buf : List ℕ) (r : Result (Unit {0}) Failure)
+    → MatchResult r (λ _. Appends old new (circ_text (take n buf))) (λ e. e ≡ Unwritten)
+    → table_bytes ≡ length buf → n ≤ length buf → Taken input left (Ok n) buf → Answered input old new r
+answered None left old new n buf (Ok _) put full most taken = tt
+answered (Some input) None old new n buf (Ok _) put full most (taken, ends) = absurd taken
+answered (Some input) (Some rest) old new n buf (Ok _) put full most (taken, ends) =
     subst (Appends old new) (same_text input rest buf n full most taken ends) put
+answered input left old new n buf (Err e) is full most taken = rw is tt

@@ -1,14 +1,12 @@
 -- What `circ` prints of a table, and what it has read. Assumes nothing.
-use Rattle.std.specs.Prelude.{◌≡◌, List, ℕ, ◌≤◌, ◌<◌, length, take, Option, None, Some}
+use Rattle.std.specs.Prelude.{◌≡◌, List, ℕ, ◌≤◌, ◌<◌, length, take, Option, None, Some, Result, Ok, Err}
 use Rattle.std.specs.Io.KnownBytes.{Consumes, IsAtEnd, Appends, Keeps}
 use Rattle.numbers.specs.Lists.{written}
 use Rattle.rules.specs.Test.{test}
 use Rattle.texts.specs.Lines.{printed}
 use Rattle.print.specs.Texts.{kids_in}
-use Rattle.circ.specs.declared.Ended.{Ended}
-use Rattle.circ.specs.declared.Ended.TheVariants.{Printed, Unread as NotRead, Unwritten}
-use Rattle.circ.specs.declared.Input.{Input}
-use Rattle.circ.specs.declared.Input.TheVariants.{Bytes, Unread}
+use Rattle.circ.specs.declared.Failure.{Failure}
+use Rattle.circ.specs.declared.Failure.TheVariants.{Unread, Unwritten}
 
 -- at most so many closures, and room for so many entries
 abbrev pub limit : ℕ
@@ -30,19 +28,20 @@ pub record Reported (bs old new : List ℕ) (r : ℕ) : Type 0 where
   pub count : r ≡ length (circ_text bs)
 
 -- no more bytes are read than the buffer has
-abbrev pub NoMoreThan : Input → List ℕ → Type 0
-NoMoreThan (Bytes n) buf = n ≤ length buf
-NoMoreThan Unread buf = Unit {0}
+abbrev pub NoMoreThan : Result ℕ Failure → List ℕ → Type 0
+NoMoreThan (Ok n) buf = n ≤ length buf
+NoMoreThan (Err e) buf = Unit {0}
 
--- where it is known what a reader has left: what was read stood at its front, and is all of it where the buffer has room for more
-abbrev pub Taken : Option (List ℕ) → Option (List ℕ) → Input → List ℕ → Type 0
-Taken old new (Bytes n) buf = Consumes old new (take n buf) × (n < length buf → IsAtEnd new)
-Taken old new Unread buf = Unit {0}
+-- where it is known what a reader has left: what was read stood at its front, and is all of it where the buffer has room for more; else a
+-- read failed
+abbrev pub Taken : Option (List ℕ) → Option (List ℕ) → Result ℕ Failure → List ℕ → Type 0
+Taken old new (Ok n) buf = Consumes old new (take n buf) × (n < length buf → IsAtEnd new)
+Taken old new (Err e) buf = e ≡ Unread
 
 -- where it is known what a reader has left and what a writer holds: the report of all that is left is written, or nothing where a read
 -- failed
-abbrev pub Answered : Option (List ℕ) → Option (List ℕ) → Option (List ℕ) → Ended → Type 0
-Answered (Some input) old new Printed = Appends old new (circ_text input)
-Answered None old new Printed = Unit {0}
-Answered input old new NotRead = Keeps old new
-Answered input old new Unwritten = Unit {0}
+abbrev pub Answered : Option (List ℕ) → Option (List ℕ) → Option (List ℕ) → Result (Unit {0}) Failure → Type 0
+Answered (Some input) old new (Ok _) = Appends old new (circ_text input)
+Answered None old new (Ok _) = Unit {0}
+Answered input old new (Err Unread) = Keeps old new
+Answered input old new (Err Unwritten) = Unit {0}

@@ -1,11 +1,10 @@
 // Reads a grammar table from standard input and prints the report of its circularity test.
 #![tactic(auto)]
 
-ghost use Rattle.std.specs.Prelude.{◌≡◌, ◌*◌, ◌≤◌, length};
-ghost use Rattle.std.specs.Bool.{OnTrue};
+ghost use Rattle.std.specs.Prelude.{◌≡◌, ◌≤◌, length, MatchResult};
 ghost use Rattle.std.specs.Io.KnownBytes.{Appends};
 ghost use Rattle.print.specs.Texts.{bytes_for};
-ghost use Rattle.circ.specs.Whole.{room, table_bytes, circ_text, Reported, NoMoreThan, Taken, Answered};
+ghost use Rattle.circ.specs.Whole.{room, circ_text, Reported, NoMoreThan, Taken, Answered};
 
 use grammar::{
     EDGE_BYTES, HEADER_BYTES, MOST_EDGES, MOST_PRODUCTIONS, MOST_SYMBOLS, PRODUCTION_BYTES, SLOTS,
@@ -13,6 +12,7 @@ use grammar::{
 };
 use lines::LINE_BYTES;
 use print::OTHER_LINES;
+use std::fmt;
 use std::io::{Read, Write};
 
 // The most closures, and the room for entries.
@@ -32,60 +32,37 @@ const TABLE_BYTES: usize = HEADER_BYTES
 // For the line of each entry, and for the others.
 const TEXT_BYTES: usize = LINE_BYTES * (ROOM + OTHER_LINES);
 
-// So many bytes at the front of a buffer, or none because a read failed.
+// Why a run stops short.
 #[derive(Clone, Copy)]
-enum Input {
-    Bytes(usize),
+enum Failure {
     Unread,
+    Unwritten,
 }
 
-// Reads until the buffer is full or the input ends. An interrupted read counts as one that failed: no signal is caught here.
-fn read_input<R: Read>(input: &mut R, buf: &mut [u8]) -> Input
+impl fmt::Display for Failure {
+    fn fmt<W: fmt::Write>(&self, f: &mut fmt::Formatter<W>) -> fmt::Result {
+        match self {
+            Failure::Unread => write!(f, "the table could not be read"),
+            Failure::Unwritten => write!(f, "the report could not be written"),
+        }
+    }
+}
+
+// Reads until the buffer is full or the input ends, and says how many bytes stand at the front of the buffer then. An interrupted read
+// counts as one that failed: no signal is caught here.
+fn read_input<R: Read>(input: &mut R, buf: &mut [u8]) -> Result<usize, Failure>
     ensures most { NoMoreThan result buf.new }
     ensures bytes { Taken (R.remaining input.old) (R.remaining input.new) result buf.new }
 {
     let mut at = 0;
     while at < buf.len() {
-        let Ok(n) = input.read(&mut buf[at..]) else {
-            return Input::Unread;
-        };
+        let n = input.read(&mut buf[at..]).map_err(|_| Failure::Unread)?;
         if n == 0 {
-            return Input::Bytes(at);
+            return Ok(at);
         }
         at += n;
     }
-    Input::Bytes(at)
-}
-
-// Each buffer is made by a function: a proof then goes by its length, and does not write out what it holds.
-fn table_buffer() -> [u8; TABLE_BYTES]
-    ensures { table_bytes ≡ length result }
-{
-    [0; TABLE_BYTES]
-}
-
-fn text_buffer() -> [u8; TEXT_BYTES]
-    ensures { bytes_for room ≡ length result }
-{
-    [0; TEXT_BYTES]
-}
-
-fn zero_numbers() -> [u16; ROOM]
-    ensures { room ≡ length result }
-{
-    [0; ROOM]
-}
-
-fn zero_graphs() -> [u64; ROOM]
-    ensures { room ≡ length result }
-{
-    [0; ROOM]
-}
-
-fn zero_kids() -> [u16; KIDS]
-    ensures { 7 * room ≡ length result }
-{
-    [0; KIDS]
+    Ok(at)
 }
 
 // The report of a table.
@@ -93,10 +70,10 @@ fn report(text: &mut [u8], table: &[u8]) -> usize
     requires { bytes_for room ≤ length text.old }
     ensures { Reported table.now text.old text.new result }
 {
-    let mut symbols = zero_numbers();
-    let mut graphs = zero_graphs();
-    let mut productions = zero_numbers();
-    let mut kids = zero_kids();
+    let mut symbols = [0; ROOM];
+    let mut graphs = [0; ROOM];
+    let mut productions = [0; ROOM];
+    let mut kids = [0; KIDS];
     answers::test_text(
         text,
         table,
@@ -108,46 +85,29 @@ fn report(text: &mut [u8], table: &[u8]) -> usize
     )
 }
 
-// Whether all of the report was written.
-fn print_report<W: Write>(output: &mut W, table: &[u8]) -> bool
-    ensures { OnTrue result (Appends (W.contents output.old) (W.contents output.new) (circ_text table.now)) }
+fn print_report<W: Write>(output: &mut W, table: &[u8]) -> Result<(), Failure>
+    ensures { MatchResult result
+        (λ _. Appends (W.contents output.old) (W.contents output.new) (circ_text table.now))
+        (λ e. e ≡ Failure.Unwritten) }
 {
-    let mut text = text_buffer();
+    let mut text = [0; TEXT_BYTES];
     let count = report(&mut text, table);
-    output.write_all(&text[..count]).is_ok()
-}
-
-// How a run ends.
-#[derive(Clone, Copy)]
-enum Ended {
-    Printed,
-    Unread,
-    Unwritten,
+    output
+        .write_all(&text[..count])
+        .map_err(|_| Failure::Unwritten)
 }
 
 // Reads a table and prints the report of its test.
-fn run<R: Read, W: Write>(input: &mut R, output: &mut W) -> Ended
+fn run<R: Read, W: Write>(input: &mut R, output: &mut W) -> Result<(), Failure>
     ensures { Answered (R.remaining input.old) (W.contents output.old) (W.contents output.new) result }
 {
-    let mut table = table_buffer();
-    let Input::Bytes(n) = read_input(input, &mut table) else {
-        return Ended::Unread;
-    };
-    if print_report(output, &table[..n]) {
-        Ended::Printed
-    } else {
-        Ended::Unwritten
-    }
+    let mut table = [0; TABLE_BYTES];
+    let n = read_input(input, &mut table)?;
+    print_report(output, &table[..n])
 }
 
 fn main(rt: HostRuntime) {
-    match run(&mut rt.stdin(), &mut rt.stdout()) {
-        Ended::Printed => {}
-        Ended::Unread => {
-            let _ = eprintln!(rt; "circ: the table could not be read");
-        }
-        Ended::Unwritten => {
-            let _ = eprintln!(rt; "circ: the report could not be written");
-        }
+    if let Err(failure) = run(&mut rt.stdin(), &mut rt.stdout()) {
+        let _ = eprintln!(rt; "circ: {failure}");
     }
 }

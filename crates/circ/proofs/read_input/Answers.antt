@@ -1,6 +1,7 @@
 -- What a read puts behind what was read before stands there. Assumes nothing.
 use Rattle.std.proofs.Common.{◌≡◌, ℕ, ◌+◌, ◌-◌, ◌≤◌, List, ◌++◌, rules, arith, length, take, slice_range, sym, ap, ◌∙◌, subst, le_refl, drop_at, length-take-le}
 use Rattle.std.proofs.lemmas.Slice.{take-put_mid_below}
+use Rattle.std.specs.Prelude.{Ok}
 use Rattle.std.specs.Io.KnownBytes.{Consumes}
 use Rattle.std.proofs.KnownBytes.{Consumes-trans}
 use borrow.Rule.Slice.PartMut.{put_mid, post_of}
@@ -23,6 +24,10 @@ loop-at-preserved g c =
     let from = c.loop-at.at in
     let room = length c.loop-at.buf - from in
     let within = c.loop-at.invariant.0 in
-    let part = slice_range-put_mid from room c.in-Ok.n c.loop-at.buf c.read.new.buf within c.in-Ok.ensures.bound.0 in
-    let joined = take_split from (from + c.in-Ok.n) c.loop-at.buf (put_mid from room c.loop-at.buf c.read.new.buf) (omega arith) (take-put_mid_below _ _ _ _ _ (le_refl _) within) in
-    (search rules, subst (Consumes _ _) (ap (λ l. take from c.loop-at.buf ++ l) (sym part) ∙ joined) (Consumes-trans _ _ _ _ _ c.loop-at.invariant.1 c.in-Ok.ensures.bytes.0))
+    let n = c.in_ok-n.n in
+    let was : c.read.result ≡ Ok n = search rules in
+    let bound = (rw was at c.read.ensures.bound).0 in
+    let bytes = (rw was at c.read.ensures.bytes).0 in
+    let part = slice_range-put_mid from room n c.loop-at.buf c.read.new.buf within bound in
+    let joined = take_split from (from + n) c.loop-at.buf (put_mid from room c.loop-at.buf c.read.new.buf) (omega arith) (take-put_mid_below _ _ _ _ _ (le_refl _) within) in
+    (search rules, subst (Consumes _ _) (ap (λ l. take from c.loop-at.buf ++ l) (sym part) ∙ joined) (Consumes-trans _ _ _ _ _ c.loop-at.invariant.1 bytes))

@@ -1,8 +1,8 @@
 -- The report of what was read is that of the whole input. Assumes nothing.
-use Rattle.std.proofs.Common.{◌∙◌, sym}
+use Rattle.std.proofs.Common.{rules}
 use Rattle.circ.proofs.Reading.{answered}
 use Rattle.circ.proofs.run.Goals as goal
 
-pub returns-then-print_report : goal.returns-then-print_report
-returns-then-print_report g c =
-    answered _ _ _ _ c.in-Bytes.n c.read_input.new.buf (c.table_buffer-table.ensures ∙ sym c.read_input.auto.buf) c.in-Bytes.ensures.most c.in-Bytes.ensures.bytes c.if-print_report.ensures
+pub returns : goal.returns
+returns g c =
+    answered _ (g.R.Read.remaining c.read_input.new.input) _ _ _ c.read_input.new.buf _ c.print_report.ensures (search rules) (search rules) (search rules)

@@ -1,9 +1,0 @@
--- By the length of a repeated array. Assumes nothing.
-use mathlib.Core.Path.{sym}
-use Prim.Native.Nat.{ℕ}
-use lib.ListN.{length-replicate}
-use Rattle.circ.specs.Whole.{table_bytes}
-use Rattle.circ.proofs.table_buffer.Goals as goal
-
-pub returns : goal.returns
-returns c = sym (length-replicate {A = ℕ} table_bytes 0)
