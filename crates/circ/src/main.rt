@@ -14,6 +14,7 @@ use lines::LINE_BYTES;
 use print::OTHER_LINES;
 use std::fmt;
 use std::io::{Read, Write};
+use steps::Store;
 
 // The most closures, and the room for entries.
 const LIMIT: u32 = 1_000_000;
@@ -74,15 +75,13 @@ fn report(text: &mut [u8], table: &[u8]) -> usize
     let mut graphs = [0; ROOM];
     let mut productions = [0; ROOM];
     let mut kids = [0; KIDS];
-    answers::test_text(
-        text,
-        table,
-        LIMIT,
-        &mut symbols,
-        &mut graphs,
-        &mut productions,
-        &mut kids,
-    )
+    let mut store = Store {
+        symbols: &mut symbols,
+        graphs: &mut graphs,
+        productions: &mut productions,
+        kids: &mut kids,
+    };
+    answers::test_text(text, table, LIMIT, &mut store)
 }
 
 fn print_report<W: Write>(output: &mut W, table: &[u8]) -> Result<(), Failure>

@@ -1,4 +1,3 @@
 pub mod Placing
-pub mod Circles
 pub mod Resting
 pub mod OneReading

@@ -23,5 +23,5 @@ pub one_reading_put_circle :
 one_reading_put_circle κs a x y s t p q i = ((p.buffer ∙ sym q.buffer) i, (p.place ∙ sym q.place) i)
 
 pub one_reading_report_text :
-    OneOutcome 6 report_text_kinds.ps report_text_kinds.r report_text_reads.Post {W = λ κs. Back} (λ κs r s. (s.0.now, r))
+    OneOutcome 3 report_text_kinds.ps report_text_kinds.r report_text_reads.Post {W = λ κs. Back} (λ κs r s. (s.0.now, r))
 one_reading_report_text κs a x y s t p q = printed_once p q

@@ -6,14 +6,15 @@ ghost use Rattle.numbers.specs.Lists.{both};
 ghost use Rattle.graph.specs.Parts.{most_nodes};
 ghost use Rattle.lines.specs.Buffer.{line_bytes};
 ghost use Rattle.texts.specs.Lines.{first_line, root_line, link_text, links_text, circle_line, entry_lines, root_lines, rest, printed};
-ghost use Rattle.steps.specs.Slices.{room_for, slices};
-ghost use Rattle.passes.specs.Slices.{room_of, entry_at, entries_to, read_out, slices};
+ghost use Rattle.steps.specs.Lent.{read};
+ghost use Rattle.passes.specs.Slices.{room_of, entry_at, entries_to, read_out};
 ghost use Rattle.print.specs.Texts.{kids_in, entry_text, Placed, bytes_for, circle_bytes, link_bytes, enough, CirclePut, Printed};
 
 use grammar::{NODES, SLOTS};
 use graph::Trail;
 use lines::LINE_BYTES;
 use rules::{Answer, Report};
+use steps::Entries;
 
 // The lines that a report may have besides those of its entries: the first, the root's, and the circle's, which may be as long as
 // five.
@@ -26,8 +27,8 @@ const CIRCLE_BYTES: usize = LINE_BYTES * 5;
 fn kids_in(table: &[u8], p: u16) -> usize
     ensures { result ≡ kids_in table.now p }
 {
-    let production = tables::production_of(table, numbers::wide(p));
-    numbers::wide(production.n)
+    let production = tables::production_of(table, usize::from(p));
+    usize::from(production.n)
 }
 
 fn first_line(buf: &mut [u8], report: Report) -> usize
@@ -36,56 +37,31 @@ fn first_line(buf: &mut [u8], report: Report) -> usize
     lines::put_first(buf, 0, report)
 }
 
-fn entry_line(
-    buf: &mut [u8],
-    at: usize,
-    table: &[u8],
-    i: usize,
-    symbols: &[u16],
-    graphs: &[u64],
-    productions: &[u16],
-    kids: &[u16],
-) -> usize
-    requires { i < room_of (slices symbols.now graphs.now productions.now kids.now) }
-    ensures { Placed
-        (entry_text (kids_in table.now) i
-        (entry_at (slices symbols.now graphs.now productions.now kids.now) i))
-        line_bytes at buf.old buf.new result }
+fn entry_line(buf: &mut [u8], at: usize, table: &[u8], entries: Entries<'_>, i: usize) -> usize
+    requires { i < room_of (read entries) }
+    ensures { Placed (entry_text (kids_in table.now) i (entry_at (read entries.entry) i)) line_bytes at buf.old buf.new result }
 {
-    let entry = steps::entry_of(symbols, graphs, productions, kids, i);
-    let slots = entry.kids;
+    let entry = entries.entry(i);
     lines::put_entry(
         buf,
         at,
         i as u16,
         entry.symbol,
         entry.production,
-        slots,
+        entry.kids,
         kids_in(table, entry.production),
         entry.graph,
     )
 }
 
-fn entry_lines(
-    buf: &mut [u8],
-    at: usize,
-    table: &[u8],
-    count: usize,
-    symbols: &[u16],
-    graphs: &[u64],
-    productions: &[u16],
-    kids: &[u16],
-) -> usize
-    requires { (count ≤ room_of (slices symbols.now graphs.now productions.now kids.now))
-        × (at + line_bytes * count ≤ length buf.old) }
-    ensures { Placed
-        (entry_lines (kids_in table.now) 0
-        (entries_to (slices symbols.now graphs.now productions.now kids.now) count))
+fn entry_lines(buf: &mut [u8], at: usize, table: &[u8], entries: Entries<'_>, count: usize) -> usize
+    requires { (count ≤ room_of (read entries)) × (at + line_bytes * count ≤ length buf.old) }
+    ensures { Placed (entry_lines (kids_in table.now) 0 (entries_to (read entries.entry) count))
         (line_bytes * count) at buf.old buf.new result }
 {
     let mut end = at;
     for i in 0..count {
-        end = entry_line(buf, end, table, i, symbols, graphs, productions, kids);
+        end = entry_line(buf, end, table, entries, i);
     }
     end
 }
@@ -110,7 +86,7 @@ fn links(buf: &mut [u8], at: usize, circle: Trail) -> usize
         (links_text (take circle.len circle.nodes) (take circle.len circle.marks))
         (link_bytes * most_nodes) at buf.old buf.new result }
 {
-    let count = numbers::smaller(circle.len as usize, NODES);
+    let count = NODES.min(usize::from(circle.len));
     let mut end = at;
     for i in 0..count {
         end = link(buf, end, circle.nodes[i], circle.marks[i]);
@@ -131,10 +107,7 @@ fn circle_line(buf: &mut [u8], at: usize, circle: Trail) -> usize
 pub fn put_circle(buf: &mut [u8], at: usize, circle: Trail) -> usize
     ensures { CirclePut circle at buf.old buf.new result }
 {
-    if buf.len() < CIRCLE_BYTES {
-        return at;
-    }
-    if buf.len() - CIRCLE_BYTES < at {
+    if buf.len() < CIRCLE_BYTES || buf.len() - CIRCLE_BYTES < at {
         return at;
     }
     circle_line(buf, at, circle)
@@ -145,29 +118,17 @@ fn root_lines(buf: &mut [u8], at: usize, table: &[u8], p: u16, report: Report) -
     requires { at + line_bytes * 6 ≤ length buf.old }
     ensures { Placed (root_lines (kids_in table.now) report p) (line_bytes * 6) at buf.old buf.new result }
 {
-    let root = report.root;
-    let end = root_line(buf, at, table, p, root);
-    let circle = report.circle;
-    circle_line(buf, end, circle)
+    let end = root_line(buf, at, table, p, report.root);
+    circle_line(buf, end, report.circle)
 }
 
-// Whether the slices have room for the entries, and the buffer for the line of each and for the others.
-fn is_enough(
-    entries: usize,
-    bytes: usize,
-    symbols: usize,
-    graphs: usize,
-    productions: usize,
-    kids: usize,
-) -> bool
-    requires { entries < 65536 }
-    ensures { result ≡ both (leb entries (room_for symbols graphs productions kids)) (leb (bytes_for entries) bytes) }
+// Whether there is room for so many entries, and in so many bytes for the line of each and for the others.
+#[tactic(auto, unfolding(numbers::specs::Lists::both))]
+fn is_enough(count: usize, room: usize, bytes: usize) -> bool
+    requires { count < 65536 }
+    ensures { result ≡ both (leb count room) (leb (bytes_for count) bytes) }
 {
-    let room = steps::room_of(symbols, graphs, productions, kids);
-    if room < entries {
-        return false;
-    }
-    LINE_BYTES * (entries + OTHER_LINES) <= bytes
+    count <= room && LINE_BYTES * (count + OTHER_LINES) <= bytes
 }
 
 // What follows the first line.
@@ -176,27 +137,20 @@ fn rest_lines(
     at: usize,
     table: &[u8],
     report: Report,
-    symbols: &[u16],
-    graphs: &[u64],
-    productions: &[u16],
-    kids: &[u16],
+    entries: Entries<'_>,
 ) -> usize
-    requires { (report.entries ≤ room_of (slices symbols.now graphs.now productions.now kids.now))
-        × (at + line_bytes * (report.entries + 6) ≤ length buf.old) }
+    requires { (report.entries ≤ room_of (read entries)) × (at + line_bytes * (report.entries + 6) ≤ length buf.old) }
     ensures { Placed
         (rest report.answer
-        (entry_lines (kids_in table.now) 0
-        (entries_to (slices symbols.now graphs.now productions.now kids.now) report.entries))
+        (entry_lines (kids_in table.now) 0 (entries_to (read entries.entry) report.entries))
         (root_lines (kids_in table.now) report))
         (line_bytes * (report.entries + 6)) at buf.old buf.new result }
 {
-    let answer = report.answer;
-    if let Answer::Refused(_) = answer {
+    if let Answer::Refused(_) = report.answer {
         return at;
     }
-    let count = numbers::wide(report.entries);
-    let end = entry_lines(buf, at, table, count, symbols, graphs, productions, kids);
-    let Answer::Circular(p) = answer else {
+    let end = entry_lines(buf, at, table, entries, usize::from(report.entries));
+    let Answer::Circular(p) = report.answer else {
         return end;
     };
     root_lines(buf, end, table, p, report)
@@ -204,32 +158,14 @@ fn rest_lines(
 
 // The text of a report. Where the slices hold fewer entries than it says, or the buffer less than LINE_BYTES for the line of each and
 // for OTHER_LINES, nothing is written and the answer is 0.
-pub fn report_text(
-    buf: &mut [u8],
-    table: &[u8],
-    report: Report,
-    symbols: &[u16],
-    graphs: &[u64],
-    productions: &[u16],
-    kids: &[u16],
-) -> usize
+pub fn report_text(buf: &mut [u8], table: &[u8], report: Report, entries: Entries<'_>) -> usize
     ensures { Printed
-        (printed (kids_in table.now)
-        (read_out report (slices symbols.now graphs.now productions.now kids.now)))
-        (enough report (slices symbols.now graphs.now productions.now kids.now) buf.old)
-        buf.old buf.new result }
+        (printed (kids_in table.now) (read_out report (read entries.entry)))
+        (enough report (read entries.entry) buf.old) buf.old buf.new result }
 {
-    let entries = numbers::wide(report.entries);
-    if !is_enough(
-        entries,
-        buf.len(),
-        symbols.len(),
-        graphs.len(),
-        productions.len(),
-        kids.len(),
-    ) {
+    if !is_enough(usize::from(report.entries), entries.room(), buf.len()) {
         return 0;
     }
     let end = first_line(buf, report);
-    rest_lines(buf, end, table, report, symbols, graphs, productions, kids)
+    rest_lines(buf, end, table, report, entries)
 }

@@ -12,6 +12,7 @@ use lines::LINE_BYTES;
 use print::OTHER_LINES;
 use rules::{Answer, MOST_ENTRIES, Report};
 use std::io::{Read, Write};
+use steps::Entries;
 
 // Any table, good or bad, that a case has.
 const TABLE_BYTES: usize = 65535;
@@ -86,17 +87,9 @@ fn print_short<W: Write>(output: &mut W, table: &[u8], report: Report) {
     print_first(output, &text, end);
 }
 
-fn print_whole<W: Write>(
-    output: &mut W,
-    table: &[u8],
-    report: Report,
-    symbols: &[u16],
-    graphs: &[u64],
-    productions: &[u16],
-    kids: &[u16],
-) {
+fn print_whole<W: Write>(output: &mut W, table: &[u8], report: Report, entries: Entries<'_>) {
     let mut text = text_buffer();
-    let count = print::report_text(&mut text, table, report, symbols, graphs, productions, kids);
+    let count = print::report_text(&mut text, table, report, entries);
     print_first(output, &text, count);
 }
 
@@ -157,15 +150,13 @@ fn one_run<R: Read, W: Write>(input: &mut R, output: &mut W, table: &[u8]) -> bo
         let _ = output.write_all(b"the row of records differs\n");
     }
     if whole {
-        print_whole(
-            output,
-            table,
-            report,
-            &symbols,
-            &graphs,
-            &productions,
-            &kids,
-        );
+        let entries = Entries {
+            symbols: &symbols,
+            graphs: &graphs,
+            productions: &productions,
+            kids: &kids,
+        };
+        print_whole(output, table, report, entries);
     } else {
         print_short(output, table, report);
     }

@@ -18,4 +18,4 @@ stored {bs} {lent = lent} is enough printed =
     record { text = w.0; count = w.1 }
 
 pub returns : goal.returns
-returns c = stored refl c.requires c.test_text.ensures
+returns c = stored refl c.requires c.test_text.ensures.printed

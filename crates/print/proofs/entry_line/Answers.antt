@@ -8,7 +8,8 @@ use mir.Val.{Fits}
 use lib.ListN.{length, get_or}
 use Rattle.lines.specs.Buffer.{line_bytes}
 use Rattle.texts.proofs.Short.{entry_short}
-use Rattle.steps.specs.Slices.{slices, entry_at}
+use Rattle.steps.specs.Lent.{read}
+use Rattle.steps.specs.Slices.{entry_at}
 use Rattle.steps.proofs.Held.{entry_held}
 use Rattle.print.specs.Texts.{entry_text}
 use Rattle.print.proofs.entry_line.Goals as goal
@@ -17,10 +18,9 @@ pub returns : goal.returns
 returns c =
     let n = c.kids_in in
     let a = c.args in
-    let is : c.entry_of-entry.result ≡ entry_at (slices a.symbols.now a.graphs.now a.productions.now a.kids.now) a.i =
-    c.entry_of-entry.ensures ∙ entry_held _ a.i c.requires in
+    let is : c.entry-entry.result ≡ entry_at (read a.entries) a.i = c.entry-entry.ensures ∙ entry_held _ a.i c.requires in
     -- what was read is an entry, so its line is short
-    let e = c.entry_of-entry.result in
+    let e = c.entry-entry.result in
     let seven : length e.kids ≡ 7 = search rules in
     let fit : (j : ℕ) → get_or e.kids j 0 < 2 ^ 16 = λ j. (let small : Fits w16 (get_or e.kids j 0) = search rules in omega arith) in
     let short : length (entry_text (λ p. n.result) a.i e) ≤ line_bytes =

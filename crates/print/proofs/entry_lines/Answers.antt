@@ -3,7 +3,8 @@ use mathlib.Core.Path.{◌≡◌, refl}
 use native.Mathlib.Omega.{arith}
 use borrow.Author.Rules.{rules}
 use Rattle.texts.specs.Lines.{entry_lines}
-use Rattle.passes.specs.Slices.{slices, entries_to}
+use Rattle.steps.specs.Lent.{read}
+use Rattle.passes.specs.Slices.{entries_to}
 use Rattle.print.specs.Texts.{kids_in}
 use Rattle.print.proofs.Placing.{nothing, within, then, one_more}
 use Rattle.print.proofs.entry_lines.Goals as goal
@@ -16,10 +17,9 @@ loop-i-init c =
 
 pub loop-i-preserved : goal.loop-i-preserved
 loop-i-preserved c =
-    let a = c.args in
-    let σ = slices a.symbols.now a.graphs.now a.productions.now a.kids.now in (
+    let a = c.args in (
       search rules,
-      within (one_more (kids_in a.table.now) σ c.loop-i.i) (omega arith)
+      within (one_more (kids_in a.table.now) (read a.entries) c.loop-i.i) (omega arith)
           (then (omega arith) c.loop-i.invariant.1 c.entry_line-end.ensures),
     )
 

@@ -15,16 +15,15 @@ returns-in-Refused c =
 pub returns-in_default-answer : goal.returns-in_default-answer
 returns-in_default-answer c =
     within (entries_only _ _ _ c.in_default.not-Refused c.in_default-answer.not-Circular) (omega arith)
-    (rw c.wide-count.ensures at c.entry_lines-end.ensures)
+    (rw c.from.ensures at c.entry_lines-end.ensures)
 
 pub root_lines-requires : goal.root_lines-requires
 root_lines-requires c =
-    let after = placed_length (omega arith) (rw c.wide-count.ensures at c.entry_lines-end.ensures) in
+    let after = placed_length (omega arith) (rw c.from.ensures at c.entry_lines-end.ensures) in
     omega (arith, after.0, after.1)
 
 pub returns : goal.returns
 unfolding rest
 returns c =
-    let entries = rw c.wide-count.ensures at c.entry_lines-end.ensures in
     rw c.in-Circular.is
-    (within refl (omega arith) (then (omega arith) entries c.root_lines.ensures))
+    (within refl (omega arith) (then (omega arith) (rw c.from.ensures at c.entry_lines-end.ensures) c.root_lines.ensures))
