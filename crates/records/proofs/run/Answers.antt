@@ -1,78 +1,64 @@
--- `records::run` meets its promise. Assumes nothing.
+-- `records::run` meets its contract: what the test leaves in the slices is stored in the row. Assumes nothing.
+use mathlib.Core.List.{List}
 use mathlib.Core.Path.{◌≡◌, ap, ◌∙◌}
-use mathlib.Core.List.{List, ◌++◌, map}
-use Prim.Native.Nat.{ℕ, ◌*◌, ◌≤◌, min}
+use Prim.Native.Nat.{ℕ, ◌≤◌}
 use native.Mathlib.Omega.{arith}
-use lib.ListN.{length, take, drop, length-map}
-use lib.Seq.{length-take-le}
+use lib.ListN.{length}
 use Rattle.numbers.specs.Lists.{written}
 use Rattle.rules.specs.declared.Entry.{Entry}
 use Rattle.rules.specs.declared.Report.{Report}
 use Rattle.rules.specs.Passes.{Outcome}
-use Rattle.rules.specs.Test.{test}
+use Rattle.rules.specs.Test as rules
 use Rattle.rules.proofs.Stored.{Counted, counted_test}
-use Rattle.passes.specs.Slices.{Slices, slices, room_of, all_kids, Tells, Tested}
+use Rattle.steps.specs.Lent.{held}
+use Rattle.passes.specs.Slices.{Slices, room_of, Tells, Tested, entries_to}
 use Rattle.passes.proofs.Testing.{tells_same}
-use Rattle.passes.proofs.Told.{length_kids}
-use Rattle.rows.proofs.Writing.{written_front}
+use Rattle.passes.proofs.Told.{entries_fit, entries_told}
+use Rattle.records.specs.Records.{row_room, RowTested}
 use Rattle.records.proofs.run.Goals as goal
 
-module _ (bs : List ℕ) (limit room n : ℕ) (σ : Slices) (places : 4096 ≤ room_of σ) (most : n ≡ min 4096 room) where
-  -- the parts that are lent
-  abbrev lent : Slices
-  lent = slices (take n σ.symbols) (take n σ.graphs) (take n σ.productions) (take (7 * n) σ.kids)
+module _ (bs : List ℕ) (limit : ℕ) (ys : List Entry) (σ τ υ : Slices) (r : Report) (room : room_of σ ≡ row_room ys)
+    (tested : Tested bs limit σ r τ) (same : υ ≡ τ) where
+  abbrev out : Outcome
+  out = rules.test bs limit (row_room ys)
 
-  abbrev o : Outcome
-  o = test bs limit n
+  counted : Counted (row_room ys) out
+  counted = counted_test bs limit (row_room ys)
 
-  room_is : room_of lent ≡ n
-  room_is =
-      omega (
-        arith,
-        places,
-        places,
-        places,
-        places,
-        most,
-        length-take-le n σ.symbols (omega (arith, places)),
-        length-take-le n σ.graphs (omega (arith, places)),
-        length-take-le n σ.productions (omega (arith, places)),
-        length-take-le (7 * n) σ.kids (omega (arith, places)),
+  told : Tells out σ r υ
+  told = rw same (tells_same (ap (rules.test bs limit) room) tested)
+
+  stored : r.entries ≡ length out.entries
+  stored = ap (λ (y : Report). y.entries) told.report ∙ counted.count
+
+  -- as many entries as the report says fit into the row and the slices
+  fit : (n : ℕ) → n ≡ r.entries → (n ≤ length ys) × (n ≤ room_of υ)
+  fit n e =
+      let long = entries_fit out σ r υ counted.sound.slots told in
+      let small : r.entries ≤ 4096 = omega (arith, stored, counted.sound.fits) in (
+        omega (arith, stored, counted.sound.fits),
+        omega (arith, stored, small, long.0, long.1, long.2, long.3),
       )
 
-  counted : Counted n o
-  counted = counted_test bs limit n
+  -- and are what is stored
+  rows : (n : ℕ) (after : List Entry) → n ≡ r.entries → after ≡ written (entries_to υ n) ys → RowTested bs limit ys r after
+  rows n after e made =
+      record {
+        report = told.report;
+        entries =
+            made
+            ∙ ap (λ (m : ℕ). written (entries_to υ m) ys) (e ∙ stored)
+            ∙ ap (λ (es : List Entry). written es ys) (entries_told out σ r υ counted.sound.slots told);
+      }
 
-  -- what is stored in a part is stored in the whole
-  module _ (τ : Slices) (r : Report) (told : Tested bs limit lent r τ) where
-    abbrev after : Slices
-    after =
-        slices (τ.symbols ++ drop n σ.symbols) (τ.graphs ++ drop n σ.graphs) (τ.productions ++ drop n σ.productions)
-        (τ.kids ++ drop (7 * n) σ.kids)
-
-    over : (m : ℕ) (new old xs : List ℕ) → xs ≡ written new (take m old) → length new ≤ m → m ≤ length old → xs ++ drop m old ≡ written new old
-    over m new old xs e l h = ap (λ (ys : List ℕ). ys ++ drop m old) e ∙ written_front new old m l h
-
-    field : (f : Entry → ℕ) (old xs : List ℕ) → xs ≡ written (map f o.entries) (take n old) → n ≤ length old
-        → xs ++ drop n old ≡ written (map f o.entries) old
-    field f old xs e h = over n (map f o.entries) old xs e (omega (arith, length-map o.entries f, counted.sound.fits)) h
-
-    whole : Tells (test bs limit (min 4096 room)) σ r after
-    whole =
-        let part : Tells o lent r τ = tells_same (ap (test bs limit) room_is) told in
-        tells_same (ap (test bs limit) most)
-        (record {
-          report = part.report;
-          symbols = field (λ e. e.symbol) σ.symbols τ.symbols part.symbols (omega (arith, places));
-          graphs = field (λ e. e.graph) σ.graphs τ.graphs part.graphs (omega (arith, places));
-          productions = field (λ e. e.production) σ.productions τ.productions part.productions (omega (arith, places));
-          kids =
-              over (7 * n) (all_kids o.entries) σ.kids τ.kids part.kids
-              (omega (arith, length_kids o.entries counted.sound.slots, counted.sound.fits)) (omega (arith, places));
-        })
+pub store-requires : goal.store-requires
+store-requires c =
+    let a = c.args in
+    fit a.table.now a.limit a.row.now (held a.part.now) _ _ c.test-report.result c.requires c.test-report.ensures c.entries.ensures
+    c.from.result c.from.ensures
 
 pub returns : goal.returns
 returns c =
     let a = c.args in
-    whole a.table.now a.limit a.room c.smaller-most.result (slices a.symbols.now a.graphs.now a.productions.now a.kids.now) c.requires
-    c.smaller-most.ensures _ _ c.test.ensures
+    rows a.table.now a.limit a.row.now (held a.part.now) _ _ c.test-report.result c.requires c.test-report.ensures c.entries.ensures
+    c.from.result c.store.new.row c.from.ensures c.store.ensures
