@@ -10,9 +10,9 @@ use Rattle.numbers.proofs.Decides.{Decides, both_decides, every_decides}
 use Rattle.grammar.specs.declared.Production.{Production}
 use Rattle.grammar.specs.Grammar.{Grammar, rights}
 use Rattle.parts.specs.Sets.{Symbols, none, has}
-use Rattle.parts.specs.Rule.{walk, grown, treed, begun, spread, reached}
+use Rattle.parts.specs.Rule.{grown, treed, begun, spread, reached}
 use Rattle.parts.proofs.Sets.{In, Within, IsSet, none_set, in_none, if_set, if_here, if_only}
-use Rattle.parts.proofs.Walks.{walk_set, walk_more, walk_holds, still_closed, out_set, out_more, out_closed, out_holds, out_only}
+use Rattle.parts.proofs.Walks.{out_more, out_closed, out_holds}
 
 -- all of ss are in the set
 abbrev pub AllIn : Symbols → List ℕ → Type 0
@@ -63,10 +63,6 @@ module _ (g : Grammar) where
       subst P (sym (Memᴰ.eq_of_singleton k)) (h p m (λ s o. holds s ((all_decides A (rights p)).so e s o))))
       (λ s k. absurd (in_none s k))
 
-  pub treed_set : IsSet (treed g)
-  unfolding treed grown
-  treed_set = out_set grows only_left grows_more ps none none_set
-
   pub treed_closed : (p : Production) → Memᴰ p ps → AllIn (treed g) (rights p) → p.left < 256 → In (treed g) p.left
   unfolding treed grown
   treed_closed p m h l =
@@ -97,10 +93,6 @@ module _ (g : Grammar) where
         (λ A p m holds e t k l. let w = (both_in T A p).so e in h p m (holds p.left w.0) w.1 t k)
         (λ s k. let b = begun_only s k in subst P (sym b.1) (first b.0))
 
-    pub reached_set : IsSet (reached g T)
-    unfolding reached spread
-    reached_set = out_set (spreads T) rights (spreads_more T) ps (begun T g.start) begun_set
-
     pub begun_reached : Within (begun T g.start) (reached g T)
     unfolding reached spread
     begun_reached = out_more (spreads T) rights (spreads_more T) ps (begun T g.start) begun_set
@@ -120,52 +112,3 @@ module _ (g : Grammar) where
     -- they have a finite tree
     pub reached_treed : Within (reached g T) T
     reached_treed = reached_holds (In T) (λ h. h) (λ p m _ h. h)
-
--- ---- walks in any order lead there too
-module _
-    (g : Grammar) (qs : List Production)
-    (from : (p : Production) → Memᴰ p qs → Memᴰ p g.productions)
-    (to : (p : Production) → Memᴰ p g.productions → Memᴰ p qs) where
-  pub grown_set : (A : Symbols) → IsSet A → IsSet (walk grown qs A)
-  unfolding grown
-  grown_set = walk_set grows only_left grows_more qs
-
-  pub grown_within : (A : Symbols) → IsSet A → Within A (treed g) → Within (walk grown qs A) (treed g)
-  unfolding grown
-  grown_within A i w =
-      walk_holds grows only_left grows_more (In (treed g)) qs A i
-      (λ B p m h e t k l.
-      let q = Memᴰ.eq_of_singleton k in
-      subst (In (treed g)) (sym q)
-      (treed_closed g p (from p m) (λ s o. h s ((all_decides B (rights p)).so e s o)) (subst (λ t. t < 256) q l)))
-      w
-
-  -- where one adds nothing, all is there
-  pub grown_done : (A : Symbols) → IsSet A → Within A (treed g) → walk grown qs A ≡ A → A ≡ treed g
-  unfolding treed grown
-  grown_done A i w e =
-      out_only grows only_left grows_more g.productions none none_set A i (λ s h. absurd (in_none s h)) w
-      (λ p m. still_closed grows only_left grows_more qs A i e p (to p m))
-
-  module _ (T : Symbols) where
-    pub spread_set : (A : Symbols) → IsSet A → IsSet (walk (spread T) qs A)
-    unfolding spread
-    spread_set = walk_set (spreads T) rights (spreads_more T) qs
-
-    pub spread_more : (A : Symbols) → IsSet A → Within A (walk (spread T) qs A)
-    unfolding spread
-    spread_more = walk_more (spreads T) rights (spreads_more T) qs
-
-    pub spread_within : (A : Symbols) → IsSet A → Within A (reached g T) → Within (walk (spread T) qs A) (reached g T)
-    unfolding spread
-    spread_within A i w =
-        walk_holds (spreads T) rights (spreads_more T) (In (reached g T)) qs A i
-        (λ B p m h e t k l. let b = (both_in T B p).so e in reached_closed g T p (from p m) (h p.left b.0) b.1 t k l)
-        w
-
-    pub spread_done :
-        (A : Symbols) → IsSet A → Within (begun T g.start) A → Within A (reached g T) → walk (spread T) qs A ≡ A → A ≡ reached g T
-    unfolding reached spread
-    spread_done A i u w e =
-        out_only (spreads T) rights (spreads_more T) g.productions (begun T g.start) (begun_set g T) A i u w
-        (λ p m. still_closed (spreads T) rights (spreads_more T) qs A i e p (to p m))

@@ -1,16 +1,15 @@
--- What a walk leaves, up or down: it keeps to what is looked for, and where it adds nothing, that is found. Assumes nothing.
+-- What a walk by a step leaves, up or down: it keeps to what is looked for, and where it adds nothing, that is found. Assumes nothing.
 use mathlib.Core.Path.{◌≡◌, sym, subst, ◌∙◌}
 use mathlib.Core.Bool.{Bool, true, false}
 use mathlib.Core.List.{List}
-use Prim.Native.Nat.{◌-◌, ◌<◌}
+use Prim.Native.Nat.{ℕ, ◌-◌, ◌<◌}
 use native.Mathlib.Omega.{arith}
 use Rattle.grammar.specs.declared.Production.{Production}
-use Rattle.grammar.specs.Grammar.{Grammar}
 use Rattle.parts.specs.Sets.{Symbols}
-use Rattle.parts.specs.Rule.{walk, grown, treed, begun, spread, reached}
-use Rattle.parts.proofs.Sets.{Within, IsSet, same_sets_lem}
+use Rattle.parts.specs.Rule as rule
+use Rattle.parts.proofs.Sets.{Within, IsSet, In}
 use Rattle.parts.proofs.Sizes.{size, size_most}
-use Rattle.parts.proofs.Rule.{reached_set, reached_treed, grown_within, grown_done, spread_more, spread_within, spread_done}
+use Rattle.parts.proofs.Walks.{step, Closed, walk_more, walk_holds, still_closed, out_more, out_closed, out_only}
 use Rattle.walks.specs.Walk.{turned, Added}
 use Rattle.walks.proofs.Orders.{of_turned, in_turned}
 
@@ -18,42 +17,31 @@ use Rattle.walks.proofs.Orders.{of_turned, in_turned}
 pub nearer : (A B : Symbols) (more : Bool) → Added A B more → more ≡ true → 256 - size B < 256 - size A
 nearer A B more added e = omega (arith, added.something e, size_most B)
 
-module _ (g : Grammar) (up : Bool) (A B : Symbols) (more : Bool) (added : Added A B more) where
-  abbrev qs : List Production
-  qs = turned up g.productions
+module _
+    (test : Symbols → Production → Bool) (targets : Production → List ℕ)
+    (mono : (A B : Symbols) (p : Production) → Within A B → test A p ≡ true → test B p ≡ true)
+    (ps : List Production) (begun : Symbols) (b : IsSet begun) where
+  -- what is looked for
+  abbrev pub out : Symbols
+  out = rule.grown_out (rule.walk (step test targets) ps) begun
 
-  -- ---- the symbols that have a finite tree
-  module _ (i : IsSet A) (w : Within A (treed g)) (e : B ≡ walk grown (turned up g.productions) A) where
-    pub trees_kept : Within B (treed g)
-    trees_kept =
-        let from = of_turned up g.productions in
-        let to = in_turned up g.productions in
-        subst (λ C. Within C (treed g)) (sym e) (grown_within g qs from to A i w)
+  pub out_begun : Within begun (rule.grown_out (rule.walk (step test targets) ps) begun)
+  out_begun = out_more test targets mono ps begun b
 
-    pub trees_found : more ≡ false → B ≡ treed g
-    trees_found f =
-        let still = added.nothing f in
-        still ∙ grown_done g qs (of_turned up g.productions) (in_turned up g.productions) A i w (sym e ∙ still)
+  module _ (A : Symbols) (i : IsSet A) (u : Within begun A) (w : Within A (rule.grown_out (rule.walk (step test targets) ps) begun)) where
+    pub done : Closed test targets mono ps A → A ≡ out
+    done = out_only test targets mono ps begun b A i u w
 
-  -- ---- the symbols that are reached
-  module _
-      (T : Symbols) (i : IsSet A) (u : Within (begun T g.start) A) (w : Within A (reached g T))
-      (e : B ≡ walk (spread T) (turned up g.productions) A) where
-    pub reached_kept : Within (begun T g.start) B × Within B (reached g T)
-    reached_kept =
-        let from = of_turned up g.productions in
-        let to = in_turned up g.productions in
-        subst (λ C. Within (begun T g.start) C × Within C (reached g T)) (sym e) (
-          (λ s h. spread_more g qs from to T A i s (u s h)),
-          spread_within g qs from to T A i w,
-        )
+    module _ (up : Bool) (B : Symbols) (more : Bool) (e : B ≡ rule.walk (step test targets) (turned up ps) A) (added : Added A B more) where
+      pub kept : Within begun B × Within B out
+      kept =
+          subst (λ C. Within begun C × Within C out) (sym e) (
+            (λ s h. walk_more test targets mono (turned up ps) A i s (u s h)),
+            walk_holds test targets mono (In out) (turned up ps) A i
+                (λ C p m h t. out_closed test targets mono ps begun b p (of_turned up ps p m) (mono C out p h t)) w,
+          )
 
-    pub reached_found : more ≡ false → B ≡ reached g T
-    reached_found f =
-        let still = added.nothing f in
-        still ∙ spread_done g qs (of_turned up g.productions) (in_turned up g.productions) T A i u w (sym e ∙ still)
-
--- all that have a finite tree are reached
-pub all_reached : (g : Grammar) (T A : Symbols) → IsSet A → Within A (reached g T) → A ≡ T → A ≡ reached g T
-all_reached g T A i w e =
-    same_sets_lem A (reached g T) i (reached_set g T) w (λ s h. subst (λ C. Within (reached g T) C) (sym e) (reached_treed g T) s h)
+      pub found : more ≡ false → B ≡ out
+      found f =
+          let still = added.nothing f in
+          still ∙ done (λ p m. still_closed test targets mono (turned up ps) A i (sym e ∙ still) p (in_turned up ps p m))

@@ -1,10 +1,10 @@
 -- What the code does to a set with one symbol, the symbols of a list and one production. Assumes nothing.
-use mathlib.Core.Path.{◌≡◌, refl, sym, ap, subst, ◌∙◌}
-use mathlib.Core.Bool.{Bool, true, false, true≢false}
+use mathlib.Core.Path.{◌≡◌, refl, sym, ap, ap₂, subst, ◌∙◌}
+use mathlib.Core.Bool.{Bool, true, false, not, ◌&&◌, ◌||◌, true≢false}
 use mathlib.Core.List.Memᴰ
 use mathlib.Core.List.{List, [], ◌∷◌}
 use mathlib.Core.Logic.{⊎_elim}
-use Prim.Native.Nat.{ℕ, ◌+◌, ◌*◌, ◌/◌, ◌%◌, ◌^◌, ◌≤◌, ◌<◌}
+use Prim.Native.Nat.{ℕ, suc, ◌+◌, ◌*◌, ◌/◌, ◌%◌, ◌^◌, ◌≤◌, ◌<◌, min}
 use native.Mathlib.Numerals.{add-one}
 use native.Mathlib.Omega.{arith}
 use borrow.Author.Tests.{ltb-true, ltb-false}
@@ -18,11 +18,14 @@ use Rattle.numbers.specs.Lists.{both, every}
 use Rattle.grammar.specs.declared.Production.{Production}
 use Rattle.grammar.specs.Grammar.{rights}
 use Rattle.grammar.specs.Table.{production_in}
+use Rattle.grammar.proofs.Lookups.{rights_many, right_at}
+use Rattle.std.specs.List.{list_all, range_with_len}
 use Rattle.parts.specs.Sets.{Symbols, has, add, add_all, add_if}
-use Rattle.parts.specs.Rule.{grown, spread, takes_part}
-use Rattle.parts.proofs.Sets.{In, IsSet, in_low, add_past, add_set, add_here, add_more, all_set, all_here, all_more, if_set, if_same}
-use Rattle.parts.proofs.Sizes.{size, same_or_more}
-use Rattle.parts.proofs.Rule.{all_decides}
+use Rattle.parts.specs.Rule.{takes_part}
+use Rattle.parts.proofs.Sets.{In, IsSet, in_low, add_past, add_set, add_here, add_more, all_set, all_here, all_more, if_same}
+use Rattle.parts.proofs.Sizes.{same_or_more}
+use Rattle.parts.proofs.Walks.{step}
+use Rattle.parts.proofs.Rule.{all_decides, grows, spreads, only_left}
 use Rattle.walks.specs.Walk.{Added}
 
 -- ---- one symbol
@@ -52,20 +55,14 @@ module _ (ss : List ℕ) (k : ℕ) where
 pub added_nothing : (A : Symbols) → Added A A false
 added_nothing A = record { nothing = λ _. refl; something = λ e. absurd (true≢false (sym e)) }
 
-module _ (A B C : Symbols) (more : Bool) (first : Added A B more) where
-  grew : size A ≤ size B
-  grew = go more refl
-    where
-      go : (b : Bool) → more ≡ b → size A ≤ size B
-      go true e = omega (arith, first.something e)
-      go false e = omega (arith, ap size (first.nothing e))
-
-  pub added_more : Added B C true → Added A C true
-  added_more next =
-      record { nothing = λ e. absurd (true≢false e); something = λ e. omega (arith, grew, next.something refl) }
-
-  pub added_same : Added B C false → Added A C more
-  added_same next = subst (λ D. Added A D more) (sym (next.nothing refl)) first
+pub added_either : (A B C : Symbols) (a b : Bool) → Added A B a → Added B C b → Added A C (a || b)
+added_either A B C a b first next = go a b first next
+  where
+    go : (a b : Bool) → Added A B a → Added B C b → Added A C (a || b)
+    go false b first next = subst (λ D. Added D C b) (first.nothing refl) next
+    go true false first next = subst (λ D. Added A D true) (sym (next.nothing refl)) first
+    go true true first next =
+        record { nothing = λ e. absurd (true≢false e); something = λ _. omega (arith, first.something refl, next.something refl) }
 
 -- a symbol that was not there
 pub added_one : (A : Symbols) (s : ℕ) → IsSet A → has A s ≡ false → (b : Bool) → b ≡ ltb s 256 → Added A (add A s) b
@@ -98,11 +95,47 @@ added_some T A ss j i all out =
           (same_or_more A (add_all A ss) i (all_set A ss i) (all_more A ss i));
     }
 
--- ---- one production
+-- ---- the production of a record
 
-pub left_is : (bs : List ℕ) (at : ℕ) → (production_in bs at).left ≡ le2 bs at
-unfolding production_in
-left_is bs at = refl
+module _ (bs : List ℕ) {p : Production} (e : production_in bs 0 ≡ p) where
+  pub left_read : le2 bs 0 ≡ p.left
+  unfolding production_in
+  left_read = ap (λ (q : Production). q.left) e
+
+  pub count_read : min (le2 bs 2) 7 ≡ length (rights p)
+  count_read = sym (rights_many bs 0) ∙ ap (λ (q : Production). length (rights q)) e
+
+  pub seven_rights : length (rights p) ≤ 7
+  seven_rights = omega (arith, count_read)
+
+  pub right_read : (k : ℕ) → k < length (rights p) → le2 bs (4 + 2 * k) ≡ get_or (rights p) k 0
+  right_read k h =
+      sym (right_at bs 0 k (subst (λ (q : Production). k < length (rights q)) (sym e) h)) ∙ ap (λ (q : Production). get_or (rights q) k 0) e
+
+-- ---- a test over a list, as the library makes it
+
+module _ {A : Type 0} (f : A → Bool) where
+  pub every_is : (xs : List A) → list_all f xs ≡ every f xs
+  unfolding every both
+  every_is [] = refl
+  every_is (x ∷ xs) = go (f x) (every_is xs)
+    where
+      go : (b : Bool) → list_all f xs ≡ every f xs → b && list_all f xs ≡ both b (every f xs)
+      go true e = e
+      go false e = refl
+
+module _ (f : ℕ → Bool) where
+  from_number : (g : ℕ → ℕ) (a : ℕ) (ss : List ℕ) → ((k : ℕ) → k < length ss → g (a + k) ≡ get_or ss k 0)
+      → list_all (λ k. f (g k)) (range_with_len a (length ss)) ≡ list_all f ss
+  from_number g a [] h = refl
+  from_number g a (s ∷ ss) h =
+      ap₂ (λ b c. b && c) (ap f (ap g (omega arith) ∙ h 0 (omega arith)))
+      (from_number g (a + 1) ss (λ k l. ap g (omega arith) ∙ h (suc k) (omega arith)))
+
+  pub every_by_number : (ss : List ℕ) → list_all (λ k. f (get_or ss k 0)) (range_with_len 0 (length ss)) ≡ every f ss
+  every_by_number ss = from_number (λ k. get_or ss k 0) 0 ss (λ k l. ap (λ j. get_or ss j 0) (omega arith)) ∙ every_is f ss
+
+-- ---- one production
 
 pub if_yes : {b : Bool} (A : Symbols) (ss : List ℕ) → b ≡ true → add_all A ss ≡ add_if b A ss
 unfolding add_if
@@ -112,6 +145,13 @@ pub if_no : {b : Bool} (A : Symbols) (ss : List ℕ) → b ≡ false → A ≡ a
 unfolding add_if
 if_no A ss e = rw e
 
+pub negated : {b c : Bool} → not b ≡ c → b ≡ not c
+negated {b} e = go b e
+  where
+    go : (b : Bool) {c : Bool} → not b ≡ c → b ≡ not c
+    go true e = ap not e
+    go false e = ap not e
+
 neither : (a : Bool) {b : Bool} → b ≡ false → both a b ≡ false
 unfolding both
 neither true e = e
@@ -119,43 +159,28 @@ neither false e = refl
 
 module _ (A : Symbols) (p : Production) where
   -- a left symbol that is there already is added to no purpose
-  pub grown_there : IsSet A → has A p.left ≡ true → A ≡ grown A p
-  unfolding grown
-  grown_there i h = sym (if_same _ A (p.left ∷ []) i (λ e s m l. rw (Memᴰ.eq_of_singleton m) h))
+  pub grow_there : IsSet A → has A p.left ≡ true → A ≡ step grows only_left A p
+  grow_there i h = sym (if_same _ A (p.left ∷ []) i (λ e s m l. rw (Memᴰ.eq_of_singleton m) h))
 
-  pub grown_no : every (has A) (rights p) ≡ false → A ≡ grown A p
-  unfolding grown
-  grown_no e = if_no A (p.left ∷ []) e
-
-  pub grown_yes : every (has A) (rights p) ≡ true → add A p.left ≡ grown A p
-  unfolding grown add_all
-  grown_yes e = if_yes A (p.left ∷ []) e
-
-  pub grown_is : IsSet A → {B : Symbols} → B ≡ grown A p → IsSet B
-  unfolding grown
-  grown_is i e = subst IsSet (sym e) (if_set _ A (p.left ∷ []) i)
+  pub grow_adds : every (has A) (rights p) ≡ true → add A p.left ≡ step grows only_left A p
+  unfolding add_all
+  grow_adds e = if_yes A (p.left ∷ []) e
 
   module _ (T : Symbols) where
-    pub spread_is : IsSet A → {B : Symbols} → B ≡ spread T A p → IsSet B
-    unfolding spread
-    spread_is i e = subst IsSet (sym e) (if_set _ A (rights p) i)
-
     -- so are right symbols that are
-    pub spread_there : IsSet A → every (has A) (rights p) ≡ true → A ≡ spread T A p
-    unfolding spread
+    pub spread_there : IsSet A → every (has A) (rights p) ≡ true → A ≡ step (spreads T) rights A p
     spread_there i e = sym (if_same _ A (rights p) i (λ _ s m l. (all_decides A (rights p)).so e s m))
 
-    pub spread_left : has A p.left ≡ false → A ≡ spread T A p
-    unfolding spread both
+    pub spread_left : has A p.left ≡ false → A ≡ step (spreads T) rights A p
+    unfolding both
     spread_left e = if_no A (rights p) (rw e)
 
-    pub spread_no : every (has T) (rights p) ≡ false → A ≡ spread T A p
-    unfolding spread
+    pub spread_no : every (has T) (rights p) ≡ false → A ≡ step (spreads T) rights A p
     spread_no e = if_no A (rights p) (neither (has A p.left) e)
 
-    pub spread_yes : has A p.left ≡ true → every (has T) (rights p) ≡ true → add_all A (rights p) ≡ spread T A p
-    unfolding spread both
-    spread_yes l e = if_yes A (rights p) (rw l e)
+    pub spread_adds : has A p.left ≡ true → every (has T) (rights p) ≡ true → add_all A (rights p) ≡ step (spreads T) rights A p
+    unfolding both
+    spread_adds l e = if_yes A (rights p) (rw l e)
 
 -- ---- whether one takes part
 

@@ -1,19 +1,23 @@
 // Which productions of a table take part: two sets of symbols, found by walks over the productions.
 #![tactic(auto)]
 
-ghost use Rattle.std.specs.Prelude.{◌≡◌, true, cond, ◌+◌, ◌-◌, ◌≤◌, ◌<◌, leb, ltb, length, get_or, take};
+ghost use Rattle.std.specs.Prelude.{◌≡◌, true, Bool, List, ℕ, ◌+◌, ◌≤◌, ◌<◌, leb, ltb, length, get_or, take};
+ghost use mathlib.Core.List.{Memᴰ};
 ghost use Rattle.numbers.specs.Number.{le2};
 ghost use Rattle.numbers.specs.Lists.{every};
+ghost use Rattle.grammar.specs.declared.Production.{Production};
 ghost use Rattle.grammar.specs.Grammar.{rights};
-ghost use Rattle.grammar.specs.Table.{at_edges, production_in, grammar_of};
+ghost use Rattle.grammar.specs.Table.{at_edges, grammar_of};
 ghost use Rattle.parts.specs.Sets as sets;
 ghost use Rattle.parts.specs.Rule as rule;
-ghost use Rattle.parts.proofs.Sets.{IsSet};
+ghost use Rattle.parts.proofs.Sets.{In, Within, IsSet};
+ghost use Rattle.parts.proofs.Rule.{grows, grows_more, spreads, spreads_more, only_left};
+ghost use Rattle.parts.proofs.Walks.{step as stepped};
 ghost use Rattle.walks.specs.Walk.{turned, Whole, Added};
 
 use grammar::{MOST_SYMBOLS, PRODUCTION_BYTES, Production, SLOTS};
-use numbers::{smaller, wide};
 use parts::WORDS;
+use std::marker::Model;
 use tables::{header_of, offsets_of};
 
 // A set of symbols, with a bit for each of the 256 that there may be.
@@ -53,155 +57,174 @@ impl SymbolSet {
     }
 }
 
-// ---- the production record at `at`: it is read as far as it is needed
-
-fn two_in(table: &[u8], at: usize) -> u16
-    requires { at + 1 < length table.now }
-    ensures { result ≡ le2 table.now at }
-{
-    table[at] as u16 + 256 * (table[at + 1] as u16)
+// A production where its record stands in the table, which is read as far as it is needed.
+#[derive(Drop)]
+struct Record<'a> {
+    bytes: &'a [u8],
 }
 
-// How many right symbols it has.
-fn count_at(table: &[u8], at: usize) -> usize
-    requires { at + 18 ≤ length table.now }
-    ensures { result ≡ length (rights (production_in table.now at)) }
-{
-    smaller(wide(two_in(table, at + 2)), SLOTS)
+impl<'a> Model for Record<'a> {
+    ghost use Rattle.std.specs.Prelude.{◌≡◌, length};
+    ghost use Rattle.grammar.specs.Table.{production_in};
+    ghost use Rattle.grammar.specs.declared.Production.{Production};
+
+    ghost Value = { Production };
+
+    ghost view = { λ r. production_in r.bytes.now 0 };
+
+    ghost invariant = { λ r. length r.bytes.now ≡ 18 };
 }
 
-// Its right symbol k.
-fn right_at(table: &[u8], at: usize, k: usize) -> u16
-    requires { (at + 18 ≤ length table.now) × (k < length (rights (production_in table.now at))) }
-    ensures { result ≡ get_or (rights (production_in table.now at)) k 0 }
+fn two_in(bytes: &[u8], at: usize) -> u16
+    requires { at + 1 < length bytes.now }
+    ensures { result ≡ le2 bytes.now at }
 {
-    two_in(table, at + 4 + 2 * k)
+    bytes[at] as u16 + 256 * (bytes[at + 1] as u16)
 }
 
-// Each right symbol is in the set.
-fn all_in(table: &[u8], at: usize, set: &SymbolSet) -> bool
-    requires { at + 18 ≤ length table.now }
-    ensures { result ≡ every (sets.has set.now.words) (rights (production_in table.now at)) }
-{
-    let n = count_at(table, at);
-    let mut k = 0;
-    while k < n {
-        let right = right_at(table, at, k);
-        if !set.has(right) {
-            return false;
-        }
-        k += 1;
+impl Record<'_> {
+    fn left(&self) -> u16
+        ensures { result ≡ self.now.left }
+    {
+        two_in(self.bytes, 0)
     }
-    true
-}
 
-// The right symbols are added.
-fn add_all(table: &[u8], at: usize, set: &mut SymbolSet)
-    requires { at + 18 ≤ length table.now }
-    ensures { set.new.words ≡ sets.add_all set.old.words (rights (production_in table.now at)) }
-{
-    let n = count_at(table, at);
-    let mut k = 0;
-    while k < n {
-        let right = right_at(table, at, k);
-        set.add(right);
-        k += 1;
+    // How many right symbols it has.
+    fn count(&self) -> usize
+        ensures { result ≡ length (rights self.now) }
+    {
+        usize::from(two_in(self.bytes, 2)).min(SLOTS)
     }
-}
 
-// A left symbol that has a finite tree already needs no second.
-fn grow(table: &[u8], at: usize, set: &mut SymbolSet) -> bool
-    requires { at + 18 ≤ length table.now }
-    ensures { (set.new.words ≡ rule.grown set.old.words (production_in table.now at))
-        × Added set.old.words set.new.words result }
-{
-    let left = two_in(table, at);
-    if set.has(left) {
-        return false;
+    // Its right symbol k.
+    fn right(&self, k: usize) -> u16
+        requires { k < length (rights self.now) }
+        ensures { result ≡ get_or (rights self.now) k 0 }
+    {
+        two_in(self.bytes, 4 + 2 * k)
     }
-    if !all_in(table, at, set) {
-        return false;
-    }
-    set.add(left)
-}
 
-// Right symbols that are all reached already are added to no purpose.
-fn spread(table: &[u8], at: usize, trees: &SymbolSet, set: &mut SymbolSet) -> bool
-    requires { at + 18 ≤ length table.now }
-    ensures { (set.new.words ≡ rule.spread trees.now.words set.old.words (production_in table.now at))
-        × Added set.old.words set.new.words result }
-{
-    let left = two_in(table, at);
-    if !set.has(left) {
-        return false;
+    // Each right symbol is in the set.
+    fn all_in(&self, set: &SymbolSet) -> bool
+        ensures { result ≡ every (sets.has set.now.words) (rights self.now) }
+    {
+        (0..self.count()).all(|k| set.has(self.right(k)))
     }
-    if all_in(table, at, set) {
-        return false;
-    }
-    if !all_in(table, at, trees) {
-        return false;
-    }
-    add_all(table, at, set);
-    true
-}
 
-// ---- walks over the productions, up from the first or down from the last; whether something was added
-
-// The i-th of n in a walk.
-fn number_at(i: usize, n: usize, up: bool) -> usize
-    requires { i < n }
-    ensures { (result ≡ cond up i (n - (i + 1))) × (result < n) }
-{
-    if up { i } else { n - (i + 1) }
-}
-
-fn grow_walk(table: &[u8], set: &mut SymbolSet, up: bool) -> bool
-    requires { Whole table.now }
-    ensures { (set.new.words ≡ rule.walk rule.grown (turned up (grammar_of table.now).productions) set.old.words)
-        × Added set.old.words set.new.words result }
-{
-    let n = wide(header_of(table).productions);
-    let first = offsets_of(table).productions as usize;
-    let mut more = false;
-    let mut i = 0;
-    while i < n {
-        let at = first + PRODUCTION_BYTES * number_at(i, n, up);
-        i += 1;
-        if grow(table, at, set) {
-            more = true;
+    // The right symbols are added.
+    fn add_to(&self, set: &mut SymbolSet)
+        ensures { set.new.words ≡ sets.add_all set.old.words (rights self.now) }
+    {
+        for k in 0..self.count() {
+            set.add(self.right(k));
         }
     }
-    more
 }
 
-fn spread_walk(table: &[u8], trees: &SymbolSet, set: &mut SymbolSet, up: bool) -> bool
+// ---- what a walk does at each production
+
+// A production adds its targets to a set where its test passes.
+trait Step {
+    ghost test: { Self → sets.Symbols → Production → Bool };
+
+    ghost targets: { Self → Production → List ℕ };
+
+    // Whether something was added.
+    fn take(&self, production: &Record, set: &mut SymbolSet) -> bool
+        ensures { (set.new.words ≡ stepped (test self.now) (targets self.now) set.old.words production.now)
+            × Added set.old.words set.new.words result };
+
+    // Whether it is seen at once that nothing is left to add.
+    fn is_done(&self, set: &SymbolSet) -> bool
+        ensures { result ≡ true → (p : Production) → test self.now set.now.words p ≡ true
+            → (s : ℕ) → Memᴰ s (targets self.now p) → In set.now.words s };
+
+    // What passes over a set passes over a greater one.
+    ghost more: { (x : Self) (A B : sets.Symbols) (p : Production) → Within A B → test x A p ≡ true → test x B p ≡ true };
+}
+
+// The left symbol has a finite tree if each right symbol has.
+struct Grow;
+
+impl Step for Grow {
+    ghost test = { λ _. grows };
+
+    ghost targets = { λ _. only_left };
+
+    // A left symbol that has a finite tree already needs no second.
+    fn take(&self, production: &Record, set: &mut SymbolSet) -> bool {
+        let left = production.left();
+        !set.has(left) && production.all_in(set) && set.add(left)
+    }
+
+    fn is_done(&self, _set: &SymbolSet) -> bool {
+        false
+    }
+
+    ghost more = { λ _. grows_more };
+}
+
+// The right symbols of a reached symbol are reached, where they all are in `trees`.
+#[derive(Clone, Copy)]
+struct Spread<'a> {
+    trees: &'a SymbolSet,
+}
+
+impl Step for Spread<'_> {
+    ghost test = { λ x. spreads x.trees.now.words };
+
+    ghost targets = { λ _. rights };
+
+    // Right symbols that are all reached already are added to no purpose.
+    fn take(&self, production: &Record, set: &mut SymbolSet) -> bool {
+        let adds = set.has(production.left())
+            && !production.all_in(set)
+            && production.all_in(self.trees);
+        if adds {
+            production.add_to(set);
+        }
+        adds
+    }
+
+    fn is_done(&self, set: &SymbolSet) -> bool {
+        *set == *self.trees
+    }
+
+    ghost more = { λ x. spreads_more x.trees.now.words };
+}
+
+// ---- walks over the productions
+
+// One walk, up from the first or down from the last; whether something was added.
+fn walk<S: Step>(table: &[u8], step: &S, set: &mut SymbolSet, up: bool) -> bool
     requires { Whole table.now }
     ensures { (set.new.words
-        ≡ rule.walk (rule.spread trees.now.words) (turned up (grammar_of table.now).productions) set.old.words)
+        ≡ rule.walk (stepped (S.test step.now) (S.targets step.now)) (turned up (grammar_of table.now).productions) set.old.words)
         × Added set.old.words set.new.words result }
 {
-    let n = wide(header_of(table).productions);
+    let n = usize::from(header_of(table).productions);
     let first = offsets_of(table).productions as usize;
     let mut more = false;
-    let mut i = 0;
-    while i < n {
-        let at = first + PRODUCTION_BYTES * number_at(i, n, up);
-        i += 1;
-        if spread(table, at, trees, set) {
-            more = true;
-        }
+    for i in 0..n {
+        let number = if up { i } else { n - 1 - i };
+        let at = first + PRODUCTION_BYTES * number;
+        let production = Record {
+            bytes: &table[at..at + PRODUCTION_BYTES],
+        };
+        more |= step.take(&production, set);
     }
     more
 }
 
-// The symbols that have a finite tree. One walk goes up and the next down, so that the order of the table matters little.
-fn with_trees(table: &[u8]) -> SymbolSet
+// Walks until nothing is left to add. One goes up and the next down, so that the order of the table matters little.
+fn grown_out<S: Step>(table: &[u8], step: &S, begun: SymbolSet) -> SymbolSet
     requires { Whole table.now }
-    ensures { result.words ≡ rule.treed (grammar_of table.now) }
+    ensures { result.words
+        ≡ rule.grown_out (rule.walk (stepped (S.test step.now) (S.targets step.now)) (grammar_of table.now).productions) begun.words }
 {
-    let mut set = SymbolSet::empty();
+    let mut set = begun;
     let mut up = true;
-    while grow_walk(table, &mut set, up) {
+    while !step.is_done(&set) && walk(table, step, &mut set, up) {
         up = !up;
     }
     set
@@ -214,22 +237,6 @@ fn begin(trees: &SymbolSet, start: u16) -> SymbolSet
     let mut set = SymbolSet::empty();
     if trees.has(start) {
         set.add(start);
-    }
-    set
-}
-
-// The symbols that are reached, where `trees` have a finite tree. When all of these are reached, nothing is left to add.
-fn from_start(table: &[u8], trees: &SymbolSet) -> SymbolSet
-    requires { Whole table.now }
-    ensures { result.words ≡ rule.reached (grammar_of table.now) trees.now.words }
-{
-    let mut set = begin(trees, header_of(table).start);
-    let mut up = true;
-    while set != *trees {
-        if !spread_walk(table, trees, &mut set, up) {
-            return set;
-        }
-        up = !up;
     }
     set
 }
@@ -247,7 +254,7 @@ pub fn treed_of(table: &[u8]) -> SymbolSet
     ensures { result.words ≡ rule.if_whole table.now (rule.treed (grammar_of table.now)) }
 {
     if is_whole(table) {
-        return with_trees(table);
+        return grown_out(table, &Grow, SymbolSet::empty());
     }
     SymbolSet::empty()
 }
@@ -257,35 +264,22 @@ pub fn reached_of(table: &[u8], treed: &SymbolSet) -> SymbolSet
     ensures { result.words ≡ rule.if_whole table.now (rule.reached (grammar_of table.now) treed.now.words) }
 {
     if is_whole(table) {
-        return from_start(table, treed);
+        let begun = begin(treed, header_of(table).start);
+        return grown_out(table, &Spread { trees: treed }, begun);
     }
     SymbolSet::empty()
 }
 
 // ---- one production
 
-// Each of the first n slots, of which there are seven, is in the set.
-fn all_of(slots: [u16; SLOTS], n: usize, set: &SymbolSet) -> bool
-    ensures { result ≡ every (sets.has set.now.words) (take n slots) }
-{
-    let count = smaller(n, SLOTS);
-    let mut k = 0;
-    while k < count {
-        if !set.has(slots[k]) {
-            return false;
-        }
-        k += 1;
-    }
-    true
-}
-
 // Whether a production takes part, by the two sets.
 pub fn takes_part(production: Production, treed: &SymbolSet, reached: &SymbolSet) -> bool
     ensures { result ≡ rule.takes_part treed.now.words reached.now.words production }
 {
-    if !reached.has(production.left) {
-        return false;
-    }
-    let slots = production.slots;
-    all_of(slots, wide(production.n), treed)
+    reached.has(production.left)
+        && production
+            .slots
+            .iter()
+            .take(usize::from(production.n))
+            .all(|s| treed.has(*s))
 }
