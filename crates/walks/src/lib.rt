@@ -283,3 +283,29 @@ pub fn takes_part(production: Production, treed: &SymbolSet, reached: &SymbolSet
             .take(usize::from(production.n))
             .all(|s| treed.has(*s))
 }
+
+// ---- both sets
+
+// The productions of a table that take part, by its two sets.
+#[derive(Clone, Copy, PartialEq, Eq)]
+pub struct TakingPart {
+    pub treed: SymbolSet,
+    pub reached: SymbolSet,
+}
+
+impl TakingPart {
+    pub fn of(table: &[u8]) -> Self
+        ensures { (result.treed.words ≡ rule.if_whole table.now (rule.treed (grammar_of table.now)))
+            × (result.reached.words ≡ rule.if_whole table.now (rule.reached (grammar_of table.now) result.treed.words)) }
+    {
+        let treed = treed_of(table);
+        let reached = reached_of(table, &treed);
+        TakingPart { treed, reached }
+    }
+
+    pub fn has(&self, production: &Production) -> bool
+        ensures { result ≡ rule.takes_part self.now.treed.words self.now.reached.words production.now }
+    {
+        takes_part(*production, &self.treed, &self.reached)
+    }
+}
