@@ -8,13 +8,11 @@ use lib.ListN.{length, get_or, take}
 use lib.Seq.{length-take-le, get_or-take, take_all}
 use borrow.Author.Rules.{rules}
 use borrow.Author.Tests.{lt-ltb, le-ltb}
-use Rattle.std.specs.Prelude.{Some, None, position}
+use Rattle.std.specs.Prelude.{Some, None, Ok, Err, position}
 use Rattle.std.proofs.lemmas.List.Sums.{position_or_len_is}
 use Rattle.numbers.proofs.Decides.{Decides, not_so}
-use Rattle.grammar.specs.declared.Checked.{Checked}
-use Rattle.grammar.specs.declared.Checked.TheVariants.{Good, Refused as Bad}
 use Rattle.grammar.specs.Table.{width_of, grammar_of}
-use Rattle.grammar.specs.Refusal.{refusal}
+use Rattle.grammar.specs.Refusal.{Checked, refusal}
 use Rattle.rules.specs.declared.Entry.{Entry}
 use Rattle.rules.specs.Passes.{no_entry, entry, passes}
 use Rattle.parts.specs.Rule.{taking}
@@ -31,8 +29,8 @@ different_test bs limit room = go (refusal bs)
   where
     go : (c : Checked)
         → Different (after_check c (saying (width_of bs) (grammar_of bs) (passes (system_in bs) limit room (taking (grammar_of bs))))).entries
-    go Good = (outcome_sound (system_in bs) (taking (grammar_of bs)) limit room).different
-    go (Bad b) = λ i j l m s g. absurd (omega arith)
+    go (Ok u) = (outcome_sound (system_in bs) (taking (grammar_of bs)) limit room).different
+    go (Err b) = λ i j l m s g. absurd (omega arith)
 
 of_decides : (s g : ℕ) (e : Entry) → Decides (of s g e) ((e.symbol ≡ s) × (e.graph ≡ g))
 of_decides s g e = record { so = λ h. search rules; passes = λ p. search rules }

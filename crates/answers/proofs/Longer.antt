@@ -8,11 +8,10 @@ use native.Mathlib.Omega.{arith}
 use borrow.Author.Tests.{le-leb}
 use lib.ListN.{length, take}
 use lib.Seq.{length-take-le, take_all, get_or-take}
+use Rattle.std.specs.Prelude.{Err}
 use Rattle.numbers.proofs.Decides.{not_so}
 use Rattle.grammar.specs.declared.Broken.TheVariants.{Rule}
-use Rattle.grammar.specs.declared.Checked.{Checked}
-use Rattle.grammar.specs.declared.Checked.TheVariants.{Refused as Bad}
-use Rattle.grammar.specs.Refusal.{counts_ok, offsets_ok, refusal}
+use Rattle.grammar.specs.Refusal.{Checked, counts_ok, offsets_ok, refusal}
 use Rattle.grammar.proofs.Decided.{counts_decide, offsets_decide}
 use Rattle.rules.specs.declared.Answer.TheVariants.{Refused}
 use Rattle.rules.specs.Passes.{outcome, no_root, empty}
@@ -26,7 +25,7 @@ same_counts n bs h =
     rw (get_or-take n bs 0 0 (omega arith), get_or-take n bs 1 0 (omega arith), get_or-take n bs 2 0 (omega arith), get_or-take n bs 3 0 (omega arith), get_or-take n bs 4 0 (omega arith), get_or-take n bs 5 0 (omega arith), get_or-take n bs 6 0 (omega arith), get_or-take n bs 7 0 (omega arith))
 
 by_counts : (counts offsets : Bool) (c : Checked) → (counts ≡ true → offsets ≡ false)
-    → cond counts (cond offsets c (Bad (Rule 3))) (Bad (Rule 2)) ≡ Bad (cond counts (Rule 3) (Rule 2))
+    → cond counts (cond offsets c (Err (Rule 3))) (Err (Rule 2)) ≡ Err (cond counts (Rule 3) (Rule 2))
 by_counts true offsets c h = rw (h refl)
 by_counts false offsets c h = refl
 
@@ -37,7 +36,7 @@ module _ (bs : List ℕ) (long : 58904 < length bs) where
       let counts = (counts_decide bs).so c in
       not_so (offsets_decide bs) (λ offsets. omega arith)
 
-  refused_by : refusal bs ≡ Bad (cond (counts_ok bs) (Rule 3) (Rule 2))
+  refused_by : refusal bs ≡ Err (cond (counts_ok bs) (Rule 3) (Rule 2))
   unfolding refusal
   refused_by = rw (le-leb 24 (length bs) (omega arith)) (by_counts (counts_ok bs) (offsets_ok bs) _ no_offsets)
 

@@ -1,62 +1,56 @@
 // The check of a table.
 #![tactic(auto)]
 
-ghost use Rattle.std.specs.Prelude.{◌≡◌};
-ghost use Rattle.grammar.specs.Refusal.{refusal};
-ghost use Rattle.grammar.specs.Steps.{handed_up, symbols_check, productions_check, edges_check};
+ghost use Rattle.std.specs.Prelude.{◌≡◌, ℕ, ◌<◌, Result, MatchResult};
+ghost use Rattle.grammar.specs.declared.Rule.{Rule};
+ghost use Rattle.grammar.specs.Refusal.{number, first_bad, refusal};
+ghost use Rattle.grammar.specs.Steps.{symbols_check, productions_check, edges_check};
 
-use grammar::{Broken, Checked, Edge, HEADER_BYTES, Node, Read};
+use grammar::{Broken, Edge, HEADER_BYTES, Node, Rule};
 
 // The refusal of the record i, handed up.
-fn handed_up(read: Read, i: u16) -> Checked
-    ensures { result ≡ handed_up i read }
+fn handed_up<T: Copy>(read: Result<T, Rule>, i: u16) -> Result<T, Broken>
+    ensures { MatchResult read (λ x. result ≡ Ok x) (λ k. result ≡ Err (Broken.Record (number k) i)) }
 {
-    match read {
-        Read::Symbol(_) => Checked::Good,
-        Read::Production(_) => Checked::Good,
-        Read::Edge(_) => Checked::Good,
-        Read::Refused(k) => Checked::Refused(Broken::Record(k, i)),
-    }
+    read.map_err(|rule| Broken::Record(rule.number(), i))
 }
 
-fn check_symbols(table: &[u8]) -> Checked
+// Of the first `count` records of a kind the first that is refused, by its number.
+fn check_records<T: Copy, F: Fn(usize) -> Result<T, Rule>>(
+    count: u16,
+    read: F,
+) -> Result<(), Broken>
+    requires { F.IsAlwaysCallable read }
+    ensures { (said : ℕ → Result T Rule) → ((i : ℕ) → i < count → (r : _) → F.post read i r → r ≡ said i) → result ≡ first_bad said 0 count }
+{
+    for i in 0..count {
+        handed_up(read(usize::from(i)), i)?;
+    }
+    Ok(())
+}
+
+fn check_symbols(table: &[u8]) -> Result<(), Broken>
     ensures { result ≡ symbols_check table.now }
 {
-    let h = tables::header_of(table);
-    let count = h.symbols;
-    let mut i: u16 = 0;
-    while i < count {
-        let read = reads::read_symbol(table, i as usize);
-        let Read::Symbol(_) = read else {
-            return handed_up(read, i);
-        };
-        i += 1;
-    }
-    Checked::Good
+    check_records(
+        tables::header_of(table).symbols,
+        |s| reads::read_symbol(table, s),
+    )
 }
 
-fn check_productions(table: &[u8]) -> Checked
+fn check_productions(table: &[u8]) -> Result<(), Broken>
     ensures { result ≡ productions_check table.now }
 {
-    let h = tables::header_of(table);
-    let count = h.productions;
-    let mut i: u16 = 0;
-    while i < count {
-        let read = reads::read_production(table, i as usize);
-        let Read::Production(_) = read else {
-            return handed_up(read, i);
-        };
-        i += 1;
-    }
-    Checked::Good
+    check_records(
+        tables::header_of(table).productions,
+        |p| reads::read_production(table, p),
+    )
 }
 
 // The first edge has none before it, and one of zeros stands in for it.
-fn check_edges(table: &[u8]) -> Checked
+fn check_edges(table: &[u8]) -> Result<(), Broken>
     ensures { result ≡ edges_check table.now }
 {
-    let h = tables::header_of(table);
-    let count = h.edges;
     let none = Node {
         occurrence: 0,
         attribute: 0,
@@ -66,38 +60,27 @@ fn check_edges(table: &[u8]) -> Checked
         source: none,
         target: none,
     };
-    let mut i: u16 = 0;
-    while i < count {
-        let read = edges::read_edge(table, i as usize, before);
-        let Read::Edge(e) = read else {
-            return handed_up(read, i);
-        };
-        before = e;
-        i += 1;
+    for i in 0..tables::header_of(table).edges {
+        before = handed_up(edges::read_edge(table, usize::from(i), before), i)?;
     }
-    Checked::Good
+    Ok(())
 }
 
 // Checks 1 to 5, each over its whole table, then the edges by number.
-pub fn check(table: &[u8]) -> Checked
+#[tactic(auto, unfolding(grammar::specs::Refusal::refusal, grammar::specs::Refusal::and_check))]
+pub fn check(table: &[u8]) -> Result<(), Broken>
     ensures { result ≡ refusal table.now }
 {
     if table.len() < HEADER_BYTES {
-        return Checked::Refused(Broken::Rule(1));
+        return Err(Broken::Rule(Rule::HeaderShort.number()));
     }
     if !reads::counts_ok(table) {
-        return Checked::Refused(Broken::Rule(2));
+        return Err(Broken::Rule(Rule::Counts.number()));
     }
     if !reads::offsets_ok(table) {
-        return Checked::Refused(Broken::Rule(3));
+        return Err(Broken::Rule(Rule::Offsets.number()));
     }
-    let symbols = check_symbols(table);
-    let Checked::Good = symbols else {
-        return symbols;
-    };
-    let productions = check_productions(table);
-    let Checked::Good = productions else {
-        return productions;
-    };
+    check_symbols(table)?;
+    check_productions(table)?;
     check_edges(table)
 }

@@ -4,9 +4,9 @@ use mathlib.Core.List.{List, map}
 use Prim.Native.Nat.{ℕ, suc, ◌*◌}
 use native.Mathlib.Omega.{arith}
 use lib.ListN.{length, get_or, take, length-map, length-take}
+use Rattle.std.specs.Prelude.{Ok}
 use Rattle.grammar.specs.Grammar.{Grammar, production, edges_of}
 use Rattle.grammar.specs.Table.{grammar_of}
-use Rattle.grammar.specs.declared.Checked.TheVariants.{Good}
 use Rattle.grammar.specs.Refusal.{refusal}
 use Rattle.graph.specs.Rows.{compound}
 use Rattle.graph.specs.Search.{circle_of}
@@ -16,7 +16,7 @@ use Rattle.graph.proofs.Tables.{few_rights, run_made}
 use Rattle.graph.proofs.Trails.{trail_filled}
 use Rattle.circles.specs.Ring.{rights_in, masks_in, rows_in, ring_in}
 
-module _ (bs : List ℕ) (good : refusal bs ≡ Good) (p : ℕ) where
+module _ (bs : List ℕ) (good : refusal bs ≡ Ok tt) (p : ℕ) where
   abbrev g : Grammar
   g = grammar_of bs
 

@@ -7,11 +7,10 @@ ghost use Rattle.numbers.specs.Lists.{both, below};
 ghost use Rattle.grammar.specs.Grammar.{production, symbol_at};
 ghost use Rattle.grammar.specs.Table.{P, grammar_of};
 ghost use Rattle.grammar.specs.Rules.{key};
-ghost use Rattle.grammar.specs.Refusal.{allowed, in_order};
+ghost use Rattle.grammar.specs.Refusal.{allowed, in_order, edge_read};
 ghost use Rattle.grammar.specs.Reading.{offsets_of, edge_at};
-ghost use Rattle.grammar.specs.Steps.{edge_read};
 
-use grammar::{Edge, Offsets, PRODUCTION_BYTES, Read, SLOTS, Symbol};
+use grammar::{Edge, Offsets, PRODUCTION_BYTES, Rule, SLOTS, Symbol};
 use numbers::two_at;
 
 // Of what the rules ask, the header and the offsets are read once, and of the production only the fields that are asked for.
@@ -117,31 +116,31 @@ fn in_order(i: usize, before: Edge, e: Edge) -> bool
 }
 
 // The edge i, after the edge before it, by rules 10 to 13 in this order, then 7.
-pub fn read_edge(table: &[u8], i: usize, before: Edge) -> Read
+pub fn read_edge(table: &[u8], i: usize, before: Edge) -> Result<Edge, Rule>
     ensures { result ≡ edge_read (grammar_of table.now) i before (edge_at table.now i) }
 {
     let e = tables::edge_at(table, i);
     let h = tables::header_of(table);
     if h.productions <= e.production {
-        return Read::Refused(10);
+        return Err(Rule::NoSuchProduction);
     }
     let o = tables::offsets_of(table);
     let n = rights_of(table, o, e.production);
     if !occurrences_ok(n, e) {
-        return Read::Refused(11);
+        return Err(Rule::NoOccurrence);
     }
     let s = symbol_at(table, o, e.production, n, e.source.occurrence);
     let t = symbol_at(table, o, e.production, n, e.target.occurrence);
     let source = tables::symbol_of(table, s as usize);
     let target = tables::symbol_of(table, t as usize);
     if !attributes_ok(e, source, target) {
-        return Read::Refused(12);
+        return Err(Rule::NoAttribute);
     }
     if !target_ok(e, target) {
-        return Read::Refused(13);
+        return Err(Rule::NotAllowed);
     }
     if !in_order(i, before, e) {
-        return Read::Refused(7);
+        return Err(Rule::NotAbove);
     }
-    Read::Edge(e)
+    Ok(e)
 }

@@ -1,8 +1,7 @@
 -- What the check says as two numbers, a path or a circle as 129, a report as 141. Assumes nothing.
-use Rattle.std.specs.Prelude.{List, [], ◌∷◌, ◌++◌, ◌≡◌, ℕ, suc, ◌+◌, ◌*◌, length, get_or, take, drop}
+use Rattle.std.specs.Prelude.{List, [], ◌∷◌, ◌++◌, ◌≡◌, ℕ, suc, ◌+◌, ◌*◌, length, get_or, take, drop, Ok, Err}
+use Rattle.grammar.specs.Refusal.{Checked}
 use Rattle.grammar.specs.declared.Broken.TheVariants.{Rule, Record}
-use Rattle.grammar.specs.declared.Checked.{Checked}
-use Rattle.grammar.specs.declared.Checked.TheVariants.{Good, Refused}
 use Rattle.graph.specs.declared.Trail.{Trail}
 use Rattle.graph.specs.Parts.{most_nodes}
 use Rattle.rules.specs.declared.Report.{Report}
@@ -10,9 +9,9 @@ use Rattle.rules.specs.Passes.{number_of, no_value, value_of}
 
 -- the number of the rule that is broken, 0 where none is, and the first bad record
 abbrev pub flat_check : Checked → List ℕ
-flat_check Good = 0 ∷ no_value ∷ []
-flat_check (Refused (Rule k)) = k ∷ no_value ∷ []
-flat_check (Refused (Record k i)) = k ∷ i ∷ []
+flat_check (Ok u) = 0 ∷ no_value ∷ []
+flat_check (Err (Rule k)) = k ∷ no_value ∷ []
+flat_check (Err (Record k i)) = k ∷ i ∷ []
 
 -- how many nodes there are, the nodes, and the marks of the links that leave them, both in 64 places
 abbrev pub flat_trail : Trail → List ℕ

@@ -7,7 +7,7 @@ ghost use Rattle.graph.specs.Trails.{trail};
 ghost use Rattle.rules.specs.Passes.{number_of, value_of};
 ghost use Rattle.flats.specs.Flat.{flat_check, trail_numbers, flat_trail, Begun, report_numbers, flat};
 
-use grammar::{Broken, Checked, NODES, SLOTS};
+use grammar::{Broken, NODES, SLOTS};
 use rules::{Answer, Report};
 
 // Stands where there is no production and no record.
@@ -31,15 +31,13 @@ fn wide(x: u16) -> u32
 }
 
 // What a check says in two numbers, left in the lent array.
-pub fn flat_check(checked: Checked, out: &mut [u32; 2])
+pub fn flat_check(checked: Result<(), Broken>, out: &mut [u32; 2])
     ensures { out.new ≡ flat_check checked }
 {
     match checked {
-        Checked::Good => *out = [0, NONE],
-        Checked::Refused(broken) => match broken {
-            Broken::Rule(k) => *out = [k as u32, NONE],
-            Broken::Record(k, i) => *out = [k as u32, wide(i)],
-        },
+        Ok(()) => *out = [0, NONE],
+        Err(Broken::Rule(k)) => *out = [k as u32, NONE],
+        Err(Broken::Record(k, i)) => *out = [k as u32, wide(i)],
     }
 }
 

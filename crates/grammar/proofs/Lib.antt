@@ -9,3 +9,4 @@ pub mod Decided
 pub mod Refused
 pub mod Runs
 pub mod Valid
+pub mod OneReading

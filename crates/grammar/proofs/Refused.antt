@@ -1,21 +1,23 @@
 -- A table is refused exactly for the first rule that it breaks, with the first bad record. Assumes nothing.
-use mathlib.Core.Path.{◌≡◌, refl, sym, subst, ◌∙◌}
+use mathlib.Core.Path.{◌≡◌, refl, sym, ap, subst, ◌∙◌}
 use mathlib.Core.Bool.{Bool, true, false}
 use mathlib.Core.List.{List}
 use Prim.Native.Nat.{ℕ, zero, suc, ◌-◌, ◌≤◌, ◌<◌}
 use native.Mathlib.Decide.{dec_le}
 use native.Mathlib.Omega.{arith}
-use lib.Dec.{lit<, ltb}
+use lib.Dec.{ltb}
 use lib.ListN.{length}
 use Rattle.numbers.proofs.Decides.{Decides, Outcome, holds, fails, outcome, not_so, below_decides}
-use Rattle.grammar.specs.declared.Checked.{Checked}
-use Rattle.grammar.specs.declared.Checked.TheVariants.{Good, Refused}
+use Rattle.std.specs.Prelude.{Result, Ok, Err}
+use Rattle.grammar.specs.declared.Edge.{Edge}
+use Rattle.grammar.specs.declared.Rule.{Rule}
+use Rattle.grammar.specs.declared.Rule.TheVariants.{SymbolBad, ProductionBad, NotAbove, NoSuchProduction, NoOccurrence, NoAttribute, NotAllowed}
 use Rattle.grammar.specs.declared.Broken.{Broken}
 use Rattle.grammar.specs.declared.Broken.TheVariants.{Record}
 use Rattle.grammar.specs.Grammar.{Grammar, symbol, production}
 use Rattle.grammar.specs.Table.{N, P, E, width_of, grammar_of}
 use Rattle.grammar.specs.Rules.{CountsInRange, OffsetsRight, ProductionThere, OccurrencesThere, AttributesThere, TargetAllowed, AboveBefore, AllGood, FirstBad, SymbolGood, ProductionGood, EdgeGood, EdgeBreaks, no_such_production, no_occurrence, no_attribute, not_allowed, not_above, BeforeRecords, BeforeEdges, Breaks, header_short, counts, offsets, symbol_bad, production_bad, edge_bad, key, edge}
-use Rattle.grammar.specs.Refusal.{counts_ok, offsets_ok, symbol_ok, production_ok, occurrences_ok, attributes_ok, target_ok, in_order, or_rule, edge_breaks, edge_rule, first_bad, and_check, refusal}
+use Rattle.grammar.specs.Refusal.{Checked, number, counts_ok, offsets_ok, symbol_ok, production_ok, occurrences_ok, attributes_ok, target_ok, in_order, or_rule, edge_read, edge_rule, first_bad, and_check, refusal}
 use Rattle.grammar.specs.Steps.{symbols_check, productions_check, edges_check}
 use Rattle.grammar.specs.Valid.{RefusalExactly}
 use Rattle.grammar.proofs.First.{RuleSaid, fine, broken, FirstTold, all_good, one_bad, first_none, first_is, first_told}
@@ -23,50 +25,51 @@ use Rattle.grammar.proofs.Sequence.{refusal_one, refusal_two, refusal_three, ref
 use Rattle.grammar.proofs.Decided.{counts_decide, offsets_decide, symbol_decides, production_decides, there_decides, occurrences_decide, attributes_decide, allowed_decides, good_edge, occurrences, attributes_there}
 
 -- ---- a rule by its test
-module _ (b : Bool) (k rest : ℕ) where
+module _ {A : Type 0} (b : Bool) (k : Rule) (rest : Result A Rule) where
   pub rule_passed : b ≡ true → or_rule b k rest ≡ rest
   unfolding or_rule
   rule_passed e = rw e
 
-  pub rule_broken : b ≡ false → or_rule b k rest ≡ k
+  pub rule_broken : b ≡ false → or_rule b k rest ≡ Err k
   unfolding or_rule
   rule_broken e = rw e
 
 -- the record i is bad by its only rule, n
-abbrev pub BadBy : (ℕ → Type 0) → ℕ → ℕ → ℕ → Type 0
-BadBy Ok n i k = (¬ Ok i) × (k ≡ n)
+abbrev pub BadBy : (ℕ → Type 0) → Rule → ℕ → Rule → Type 0
+BadBy Good n i k = (¬ Good i) × (k ≡ n)
 
 -- records with one rule, n, of which there are `count`
-module _ (test : ℕ → Bool) (Ok : ℕ → Type 0) (decides : (i : ℕ) → Decides (test i) (Ok i)) (n : ℕ) (some : 0 < n) (count : ℕ) where
-  abbrev rule : ℕ → ℕ
-  rule i = or_rule (test i) n 0
+module _ {A : Type 0} (test : ℕ → Bool) (value : ℕ → A) (Good : ℕ → Type 0) (decides : (i : ℕ) → Decides (test i) (Good i)) (n : Rule) (count : ℕ) where
+  abbrev rule : ℕ → Result A Rule
+  rule i = or_rule (test i) n (Ok (value i))
 
-  rule_good : (i : ℕ) → Ok i → or_rule (test i) n 0 ≡ 0
-  rule_good i h = rule_passed (test i) n 0 ((decides i).passes h)
+  rule_good : (i : ℕ) → Good i → or_rule (test i) n (Ok (value i)) ≡ Ok (value i)
+  rule_good i h = rule_passed (test i) n (Ok (value i)) ((decides i).passes h)
 
-  rule_bad : (i k : ℕ) → BadBy Ok n i k → or_rule (test i) n 0 ≡ k
-  rule_bad i k h = rule_broken (test i) n 0 (not_so (decides i) h.0) ∙ sym h.1
+  rule_bad : (i : ℕ) → ¬ Good i → or_rule (test i) n (Ok (value i)) ≡ Err n
+  rule_bad i h = rule_broken (test i) n (Ok (value i)) (not_so (decides i) h)
 
-  rule_said : (i : ℕ) → RuleSaid Ok (BadBy Ok n) i (or_rule (test i) n 0)
+  rule_said : (i : ℕ) → RuleSaid Good (BadBy Good n) i (or_rule (test i) n (Ok (value i)))
   rule_said i = go (outcome (decides i))
     where
-      go : Outcome (test i) (Ok i) → RuleSaid Ok (BadBy Ok n) i (or_rule (test i) n 0)
-      go (holds t h) = subst (RuleSaid Ok (BadBy Ok n) i) (sym (rule_passed (test i) n 0 t)) (fine h)
-      go (fails t h) = subst (RuleSaid Ok (BadBy Ok n) i) (sym (rule_broken (test i) n 0 t)) (broken (h, refl))
+      go : Outcome (test i) (Good i) → RuleSaid Good (BadBy Good n) i (or_rule (test i) n (Ok (value i)))
+      go (holds t h) = subst (RuleSaid Good (BadBy Good n) i) (sym (rule_passed (test i) n (Ok (value i)) t)) (fine (value i) h)
+      go (fails t h) = subst (RuleSaid Good (BadBy Good n) i) (sym (rule_broken (test i) n (Ok (value i)) t)) (broken (h, refl))
 
-  numbered : (i k : ℕ) → BadBy Ok n i k → 0 < k
-  numbered i k h = omega (arith, h.1)
+  pub single_none : AllGood Good count → first_bad (λ i. or_rule (test i) n (Ok (value i))) 0 count ≡ Ok tt
+  single_none = first_none rule value Good rule_good count
 
-  pub single_none : AllGood Ok count → first_bad (λ i. or_rule (test i) n 0) 0 count ≡ Good
-  single_none = first_none rule Ok (BadBy Ok n) rule_good rule_bad numbered count
+  pub single_is : (i : ℕ) → FirstBad Good count i → first_bad (λ i. or_rule (test i) n (Ok (value i))) 0 count ≡ Err (Record (number n) i)
+  single_is i f = first_is rule value Good rule_good count i n f.there f.before (rule_bad i f.bad)
 
-  pub single_is : (i : ℕ) → FirstBad Ok count i → first_bad (λ i. or_rule (test i) n 0) 0 count ≡ Refused (Record n i)
-  single_is i f = first_is rule Ok (BadBy Ok n) rule_good rule_bad numbered count i n f.there f.before (f.bad, refl)
-
-  pub single_told : FirstTold Ok (BadBy Ok n) count (first_bad (λ i. or_rule (test i) n 0) 0 count)
-  single_told = first_told rule Ok (BadBy Ok n) rule_good rule_bad numbered rule_said count
+  pub single_told : FirstTold Good (BadBy Good n) count (first_bad (λ i. or_rule (test i) n (Ok (value i))) 0 count)
+  single_told = first_told rule Good (BadBy Good n) rule_said count
 
 -- ---- an edge
+-- the edge i breaks the rule k
+abbrev pub EdgeBad : Grammar → ℕ → Rule → Type 0
+EdgeBad g i k = EdgeBreaks g i (number k)
+
 module _ (g : Grammar) where
   pub order_decides : (i : ℕ) → Decides (in_order i (edge g (i - 1)) (edge g i)) (AboveBefore g i)
   unfolding in_order
@@ -80,40 +83,41 @@ module _ (g : Grammar) where
     there = ltb (edge g i).production (length g.productions)
 
     -- the rule by its five tests
-    by_tests : Bool → Bool → Bool → Bool → Bool → ℕ
-    by_tests a b c d e = or_rule a 10 (or_rule b 11 (or_rule c 12 (or_rule d 13 (or_rule e 7 0))))
+    by_tests : Bool → Bool → Bool → Bool → Bool → Result Edge Rule
+    by_tests a b c d e =
+        or_rule a NoSuchProduction (or_rule b NoOccurrence (or_rule c NoAttribute (or_rule d NotAllowed (or_rule e NotAbove (Ok (edge g i))))))
 
     rule_is : edge_rule g i
         ≡ by_tests there (occurrences_ok g (edge g i)) (attributes_ok g (edge g i)) (target_ok g (edge g i))
         (in_order i (edge g (i - 1)) (edge g i))
-    unfolding edge_breaks by_tests
+    unfolding edge_read by_tests
     rule_is = refl
 
-    ten : (a b c d e : Bool) → a ≡ false → by_tests a b c d e ≡ 10
+    ten : (a b c d e : Bool) → a ≡ false → by_tests a b c d e ≡ Err NoSuchProduction
     unfolding by_tests or_rule
     ten a b c d e p = rw p
 
-    eleven : (a b c d e : Bool) → a ≡ true → b ≡ false → by_tests a b c d e ≡ 11
+    eleven : (a b c d e : Bool) → a ≡ true → b ≡ false → by_tests a b c d e ≡ Err NoOccurrence
     unfolding by_tests or_rule
     eleven a b c d e p q = rw (p, q)
 
-    twelve : (a b c d e : Bool) → a ≡ true → b ≡ true → c ≡ false → by_tests a b c d e ≡ 12
+    twelve : (a b c d e : Bool) → a ≡ true → b ≡ true → c ≡ false → by_tests a b c d e ≡ Err NoAttribute
     unfolding by_tests or_rule
     twelve a b c d e p q r = rw (p, q, r)
 
-    thirteen : (a b c d e : Bool) → a ≡ true → b ≡ true → c ≡ true → d ≡ false → by_tests a b c d e ≡ 13
+    thirteen : (a b c d e : Bool) → a ≡ true → b ≡ true → c ≡ true → d ≡ false → by_tests a b c d e ≡ Err NotAllowed
     unfolding by_tests or_rule
     thirteen a b c d e p q r s = rw (p, q, r, s)
 
-    seven : (a b c d e : Bool) → a ≡ true → b ≡ true → c ≡ true → d ≡ true → e ≡ false → by_tests a b c d e ≡ 7
+    seven : (a b c d e : Bool) → a ≡ true → b ≡ true → c ≡ true → d ≡ true → e ≡ false → by_tests a b c d e ≡ Err NotAbove
     unfolding by_tests or_rule
     seven a b c d e p q r s t = rw (p, q, r, s, t)
 
-    none : (a b c d e : Bool) → a ≡ true → b ≡ true → c ≡ true → d ≡ true → e ≡ true → by_tests a b c d e ≡ 0
+    none : (a b c d e : Bool) → a ≡ true → b ≡ true → c ≡ true → d ≡ true → e ≡ true → by_tests a b c d e ≡ Ok (edge g i)
     unfolding by_tests or_rule
     none a b c d e p q r s t = rw (p, q, r, s, t)
 
-    pub edge_good : EdgeGood g i → edge_rule g i ≡ 0
+    pub edge_good : EdgeGood g i → edge_rule g i ≡ Ok (edge g i)
     edge_good h =
         rule_is
         ∙ none _ _ _ _ _ ((there_decides g (edge g i)).passes h.0.production_there)
@@ -122,40 +126,43 @@ module _ (g : Grammar) where
         ((allowed_decides g (edge g i)).passes h.0.allowed)
         ((order_decides i).passes h.1)
 
-    pub edge_broken : (k : ℕ) → EdgeBreaks g i k → edge_rule g i ≡ k
-    edge_broken k (no_such_production n) = rule_is ∙ ten _ _ _ _ _ (not_so (there_decides g (edge g i)) n)
+    -- the rule of a number that an edge breaks
+    pub edge_broken : (k : ℕ) → EdgeBreaks g i k → (r : Rule) × (number r ≡ k) × (edge_rule g i ≡ Err r)
+    edge_broken k (no_such_production n) = (NoSuchProduction, refl, rule_is ∙ ten _ _ _ _ _ (not_so (there_decides g (edge g i)) n))
     edge_broken k (no_occurrence p n) =
-        rule_is ∙ eleven _ _ _ _ _ ((there_decides g (edge g i)).passes p) (not_so (occurrences_decide g (edge g i)) n)
-    edge_broken k (no_attribute p o n) =
-        rule_is
-        ∙ twelve _ _ _ _ _ ((there_decides g (edge g i)).passes p) ((occurrences_decide g (edge g i)).passes o)
-        (not_so (attributes_decide g (edge g i)) n)
-    edge_broken k (not_allowed p o a n) =
-        rule_is
-        ∙ thirteen _ _ _ _ _ ((there_decides g (edge g i)).passes p) ((occurrences_decide g (edge g i)).passes o)
-        ((attributes_decide g (edge g i)).passes a) (not_so (allowed_decides g (edge g i)) n)
-    edge_broken k (not_above h n) =
-        rule_is
-        ∙ seven _ _ _ _ _ ((there_decides g (edge g i)).passes h.production_there)
-        ((occurrences_decide g (edge g i)).passes (occurrences g (edge g i) h))
-        ((attributes_decide g (edge g i)).passes (attributes_there g (edge g i) h))
-        ((allowed_decides g (edge g i)).passes h.allowed) (not_so (order_decides i) n)
+        (NoOccurrence, refl, rule_is ∙ eleven _ _ _ _ _ ((there_decides g (edge g i)).passes p) (not_so (occurrences_decide g (edge g i)) n))
+    edge_broken k (no_attribute p o n) = (
+      NoAttribute,
+      refl,
+      rule_is
+          ∙ twelve _ _ _ _ _ ((there_decides g (edge g i)).passes p) ((occurrences_decide g (edge g i)).passes o)
+          (not_so (attributes_decide g (edge g i)) n),
+    )
+    edge_broken k (not_allowed p o a n) = (
+      NotAllowed,
+      refl,
+      rule_is
+          ∙ thirteen _ _ _ _ _ ((there_decides g (edge g i)).passes p) ((occurrences_decide g (edge g i)).passes o)
+          ((attributes_decide g (edge g i)).passes a) (not_so (allowed_decides g (edge g i)) n),
+    )
+    edge_broken k (not_above h n) = (
+      NotAbove,
+      refl,
+      rule_is
+          ∙ seven _ _ _ _ _ ((there_decides g (edge g i)).passes h.production_there)
+          ((occurrences_decide g (edge g i)).passes (occurrences g (edge g i) h))
+          ((attributes_decide g (edge g i)).passes (attributes_there g (edge g i) h))
+          ((allowed_decides g (edge g i)).passes h.allowed) (not_so (order_decides i) n),
+    )
 
-    pub edge_some : (k : ℕ) → EdgeBreaks g i k → 0 < k
-    edge_some k (no_such_production n) = lit< tt
-    edge_some k (no_occurrence p n) = lit< tt
-    edge_some k (no_attribute p o n) = lit< tt
-    edge_some k (not_allowed p o a n) = lit< tt
-    edge_some k (not_above h n) = lit< tt
+    abbrev Said : Result Edge Rule → Type 0
+    Said = RuleSaid (EdgeGood g) (EdgeBad g) i
 
-    abbrev Said : ℕ → Type 0
-    Said = RuleSaid (EdgeGood g) (EdgeBreaks g) i
-
-    told_by : {k : ℕ} → by_tests there (occurrences_ok g (edge g i)) (attributes_ok g (edge g i)) (target_ok g (edge g i))
-        (in_order i (edge g (i - 1)) (edge g i)) ≡ k → Said k → Said (edge_rule g i)
+    told_by : {r : Result Edge Rule} → by_tests there (occurrences_ok g (edge g i)) (attributes_ok g (edge g i)) (target_ok g (edge g i))
+        (in_order i (edge g (i - 1)) (edge g i)) ≡ r → Said r → Said (edge_rule g i)
     told_by e = subst Said (sym (rule_is ∙ e))
 
-    pub edge_said : RuleSaid (EdgeGood g) (EdgeBreaks g) i (edge_rule g i)
+    pub edge_said : RuleSaid (EdgeGood g) (EdgeBad g) i (edge_rule g i)
     edge_said =
         go (outcome (there_decides g (edge g i))) (outcome (occurrences_decide g (edge g i))) (outcome (attributes_decide g (edge g i)))
         (outcome (allowed_decides g (edge g i))) (outcome (order_decides i))
@@ -165,7 +172,7 @@ module _ (g : Grammar) where
             → Outcome (attributes_ok g (edge g i)) (AttributesThere g (edge g i))
             → Outcome (target_ok g (edge g i)) (TargetAllowed g (edge g i))
             → Outcome (in_order i (edge g (i - 1)) (edge g i)) (AboveBefore g i)
-            → RuleSaid (EdgeGood g) (EdgeBreaks g) i (edge_rule g i)
+            → RuleSaid (EdgeGood g) (EdgeBad g) i (edge_rule g i)
         go (fails p n) b c d e = told_by (ten _ _ _ _ _ p) (broken (no_such_production n))
         go (holds p u) (fails q n) c d e = told_by (eleven _ _ _ _ _ p q) (broken (no_occurrence u n))
         go (holds p u) (holds q v) (fails r n) d e = told_by (twelve _ _ _ _ _ p q r) (broken (no_attribute u v n))
@@ -173,7 +180,7 @@ module _ (g : Grammar) where
         go (holds p u) (holds q v) (holds r w) (holds s x) (fails t n) =
             told_by (seven _ _ _ _ _ p q r s t) (broken (not_above (good_edge g (edge g i) u v w x) n))
         go (holds p u) (holds q v) (holds r w) (holds s x) (holds t y) =
-            told_by (none _ _ _ _ _ p q r s t) (fine (good_edge g (edge g i) u v w x, y))
+            told_by (none _ _ _ _ _ p q r s t) (fine (edge g i) (good_edge g (edge g i) u v w x, y))
 
 -- ---- the three tables
 module _ (bs : List ℕ) where
@@ -186,58 +193,60 @@ module _ (bs : List ℕ) where
   production_test : (i : ℕ) → Decides (production_ok (N bs) (production (grammar_of bs) i)) (ProductionGood bs i)
   production_test i = production_decides (N bs) (production g i)
 
-  symbols_none : AllGood (SymbolGood bs) (N bs) → symbols_check bs ≡ Good
-  symbols_none = single_none _ (SymbolGood bs) symbol_test 4 (lit< tt) (N bs)
+  symbols_none : AllGood (SymbolGood bs) (N bs) → symbols_check bs ≡ Ok tt
+  symbols_none = single_none _ (symbol g) (SymbolGood bs) symbol_test SymbolBad (N bs)
 
-  symbols_is : (i : ℕ) → FirstBad (SymbolGood bs) (N bs) i → symbols_check bs ≡ Refused (Record 4 i)
-  symbols_is = single_is _ (SymbolGood bs) symbol_test 4 (lit< tt) (N bs)
+  symbols_is : (i : ℕ) → FirstBad (SymbolGood bs) (N bs) i → symbols_check bs ≡ Err (Record 4 i)
+  symbols_is = single_is _ (symbol g) (SymbolGood bs) symbol_test SymbolBad (N bs)
 
-  symbols_told : FirstTold (SymbolGood bs) (BadBy (SymbolGood bs) 4) (N bs) (symbols_check bs)
-  symbols_told = single_told _ (SymbolGood bs) symbol_test 4 (lit< tt) (N bs)
+  symbols_told : FirstTold (SymbolGood bs) (BadBy (SymbolGood bs) SymbolBad) (N bs) (symbols_check bs)
+  symbols_told = single_told _ (symbol g) (SymbolGood bs) symbol_test SymbolBad (N bs)
 
-  productions_none : AllGood (ProductionGood bs) (P bs) → productions_check bs ≡ Good
-  productions_none = single_none _ (ProductionGood bs) production_test 5 (lit< tt) (P bs)
+  productions_none : AllGood (ProductionGood bs) (P bs) → productions_check bs ≡ Ok tt
+  productions_none = single_none _ (production g) (ProductionGood bs) production_test ProductionBad (P bs)
 
-  productions_is : (i : ℕ) → FirstBad (ProductionGood bs) (P bs) i → productions_check bs ≡ Refused (Record 5 i)
-  productions_is = single_is _ (ProductionGood bs) production_test 5 (lit< tt) (P bs)
+  productions_is : (i : ℕ) → FirstBad (ProductionGood bs) (P bs) i → productions_check bs ≡ Err (Record 5 i)
+  productions_is = single_is _ (production g) (ProductionGood bs) production_test ProductionBad (P bs)
 
-  productions_told : FirstTold (ProductionGood bs) (BadBy (ProductionGood bs) 5) (P bs) (productions_check bs)
-  productions_told = single_told _ (ProductionGood bs) production_test 5 (lit< tt) (P bs)
+  productions_told : FirstTold (ProductionGood bs) (BadBy (ProductionGood bs) ProductionBad) (P bs) (productions_check bs)
+  productions_told = single_told _ (production g) (ProductionGood bs) production_test ProductionBad (P bs)
 
-  edges_is : (i k : ℕ) → i < E bs → AllGood (EdgeGood (grammar_of bs)) i → EdgeBreaks (grammar_of bs) i k → edges_check bs ≡ Refused (Record k i)
-  edges_is = first_is (edge_rule g) (EdgeGood g) (EdgeBreaks g) (edge_good g) (edge_broken g) (edge_some g) (E bs)
+  edges_is : (i k : ℕ) → i < E bs → AllGood (EdgeGood (grammar_of bs)) i → EdgeBreaks (grammar_of bs) i k → edges_check bs ≡ Err (Record k i)
+  edges_is i k l all bad =
+      let r = edge_broken g i k bad in
+      first_is (edge_rule g) (edge g) (EdgeGood g) (edge_good g) (E bs) i r.0 l all r.2 ∙ ap (λ (n : ℕ). Err (Record n i)) r.1
 
-  edges_told : FirstTold (EdgeGood (grammar_of bs)) (EdgeBreaks (grammar_of bs)) (E bs) (edges_check bs)
-  edges_told = first_told (edge_rule g) (EdgeGood g) (EdgeBreaks g) (edge_good g) (edge_broken g) (edge_some g) (edge_said g) (E bs)
+  edges_told : FirstTold (EdgeGood (grammar_of bs)) (EdgeBad (grammar_of bs)) (E bs) (edges_check bs)
+  edges_told = first_told (edge_rule g) (EdgeGood g) (EdgeBad g) (edge_said g) (E bs)
 
 -- ---- the checks in their order
 pub data Ending (bs : List ℕ) : Checked → Type 0 where
-  taken : BeforeEdges bs → AllGood (EdgeGood (grammar_of bs)) (E bs) → Ending bs Good
-  refused : {b : Broken} → Breaks bs b → Ending bs (Refused b)
+  taken : BeforeEdges bs → AllGood (EdgeGood (grammar_of bs)) (E bs) → Ending bs (Ok tt)
+  refused : {b : Broken} → Breaks bs b → Ending bs (Err b)
 
 module _ (bs : List ℕ) where
-  by_edges : BeforeEdges bs → (c : Checked) → FirstTold (EdgeGood (grammar_of bs)) (EdgeBreaks (grammar_of bs)) (E bs) c → Ending bs c
+  by_edges : BeforeEdges bs → (c : Checked) → FirstTold (EdgeGood (grammar_of bs)) (EdgeBad (grammar_of bs)) (E bs) c → Ending bs c
   by_edges b c (all_good all) = taken b all
-  by_edges b c (one_bad i k l all bad) = refused (edge_bad b i k l all bad)
+  by_edges b c (one_bad i k l all bad) = refused (edge_bad b i (number k) l all bad)
 
   by_productions : BeforeRecords bs → AllGood (SymbolGood bs) (N bs) → (c d : Checked)
-      → FirstTold (ProductionGood bs) (BadBy (ProductionGood bs) 5) (P bs) c
-      → FirstTold (EdgeGood (grammar_of bs)) (EdgeBreaks (grammar_of bs)) (E bs) d → Ending bs (and_check c d)
+      → FirstTold (ProductionGood bs) (BadBy (ProductionGood bs) ProductionBad) (P bs) c
+      → FirstTold (EdgeGood (grammar_of bs)) (EdgeBad (grammar_of bs)) (E bs) d → Ending bs (and_check c d)
   unfolding and_check
   by_productions b s c d (all_good all) t = by_edges (b, s, all) d t
   by_productions b s c d (one_bad i k l all bad) t =
       refused
-      (subst (λ (j : ℕ). Breaks bs (Record j i)) (sym bad.1)
+      (subst (λ (j : Rule). Breaks bs (Record (number j) i)) (sym bad.1)
       (production_bad b s i (record { there = l; before = all; bad = bad.0 })))
 
-  by_symbols : BeforeRecords bs → (c d e : Checked) → FirstTold (SymbolGood bs) (BadBy (SymbolGood bs) 4) (N bs) c
-      → FirstTold (ProductionGood bs) (BadBy (ProductionGood bs) 5) (P bs) d
-      → FirstTold (EdgeGood (grammar_of bs)) (EdgeBreaks (grammar_of bs)) (E bs) e → Ending bs (and_check c (and_check d e))
+  by_symbols : BeforeRecords bs → (c d e : Checked) → FirstTold (SymbolGood bs) (BadBy (SymbolGood bs) SymbolBad) (N bs) c
+      → FirstTold (ProductionGood bs) (BadBy (ProductionGood bs) ProductionBad) (P bs) d
+      → FirstTold (EdgeGood (grammar_of bs)) (EdgeBad (grammar_of bs)) (E bs) e → Ending bs (and_check c (and_check d e))
   unfolding and_check
   by_symbols b c d e (all_good all) t u = by_productions b all d e t u
   by_symbols b c d e (one_bad i k l all bad) t u =
       refused
-      (subst (λ (j : ℕ). Breaks bs (Record j i)) (sym bad.1) (symbol_bad b i (record { there = l; before = all; bad = bad.0 })))
+      (subst (λ (j : Rule). Breaks bs (Record (number j) i)) (sym bad.1) (symbol_bad b i (record { there = l; before = all; bad = bad.0 })))
 
   pub ending : Ending bs (refusal bs)
   ending = by_header (dec_le 24 (length bs))
@@ -265,7 +274,7 @@ module _ (bs : List ℕ) where
   to_records : BeforeRecords bs → refusal bs ≡ and_check (symbols_check bs) (and_check (productions_check bs) (edges_check bs))
   to_records b = refusal_records bs b.0 ((counts_decide bs).passes b.1) ((offsets_decide bs).passes b.2)
 
-  pub shown : {b : Broken} → Breaks bs b → refusal bs ≡ Refused b
+  pub shown : {b : Broken} → Breaks bs b → refusal bs ≡ Err b
   unfolding and_check
   shown (header_short n) = refusal_one bs (omega arith)
   shown (counts h n) = refusal_two bs h (not_so (counts_decide bs) n)
@@ -275,7 +284,7 @@ module _ (bs : List ℕ) where
   shown (edge_bad b i k l all bad) =
       to_records b.0 ∙ and_good _ (symbols_none bs b.1) ∙ and_good _ (productions_none bs b.2) ∙ edges_is bs i k l all bad
 
-  broken_by : (c : Checked) → Ending bs c → (b : Broken) → c ≡ Refused b → Breaks bs b
+  broken_by : (c : Checked) → Ending bs c → (b : Broken) → c ≡ Err b → Breaks bs b
   broken_by c (taken h all) b e = let z : ◌≡◌ {A = ℕ} 0 1 = cc in absurd (omega arith)
   broken_by c (refused {b = d} h) b e = let q : d ≡ b = cc in subst (Breaks bs) q h
 

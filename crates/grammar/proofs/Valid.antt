@@ -8,20 +8,19 @@ use native.Mathlib.Omega.{arith}
 use Rattle.numbers.specs.Lists.{Below}
 use Rattle.numbers.proofs.Ordered.{below_trans, below_first, stands_at}
 use Rattle.grammar.specs.declared.Edge.{Edge}
-use Rattle.grammar.specs.declared.Checked.{Checked}
-use Rattle.grammar.specs.declared.Checked.TheVariants.{Good}
+use Rattle.std.specs.Prelude.{Ok}
 use Rattle.grammar.specs.Grammar.{no_symbol, no_production}
 use Rattle.grammar.specs.Table.{N, E, width_of, edge_in, grammar_of}
 use Rattle.grammar.specs.Rules.{GoodSymbol, GoodProduction, GoodEdge, AllGood, EdgeGood, BeforeEdges, edge, key, no_edge}
 use Rattle.grammar.specs.Search.{producing}
-use Rattle.grammar.specs.Refusal.{refusal}
+use Rattle.grammar.specs.Refusal.{Checked, refusal}
 use Rattle.grammar.specs.Valid.{Valid, TakenIsValid}
 use Rattle.grammar.proofs.Lookups.{edge_there, symbols_many, edges_many, productions_many}
 use Rattle.grammar.proofs.Refused.{Ending, taken, refused, ending}
 use Rattle.grammar.proofs.Runs.{run_is_all}
 
 module _ (bs : List ℕ) where
-  not_refused : (c : Checked) → Ending bs c → c ≡ Good → BeforeEdges bs × AllGood (EdgeGood (grammar_of bs)) (E bs)
+  not_refused : (c : Checked) → Ending bs c → c ≡ Ok tt → BeforeEdges bs × AllGood (EdgeGood (grammar_of bs)) (E bs)
   not_refused c (taken b all) e = (b, all)
   not_refused c (refused b) e = let z : ◌≡◌ {A = ℕ} 0 1 = cc in absurd (omega arith)
 

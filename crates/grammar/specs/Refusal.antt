@@ -1,13 +1,14 @@
 -- The first rule that a table breaks, and the first bad record, computed. Assumes nothing.
-use Rattle.std.specs.Prelude.{Bool, true, false, cond, List, ℕ, zero, suc, ◌-◌, ◌^◌, leb, ltb, eqb, length, drop}
+use Rattle.std.specs.Prelude.{Bool, true, false, cond, List, ℕ, zero, suc, ◌-◌, ◌^◌, leb, ltb, eqb, length, drop, Result, Ok, Err}
 use Rattle.numbers.specs.Number.{bit, le4}
 use Rattle.numbers.specs.Lists.{both, every, below}
 use Rattle.grammar.specs.declared.Symbol.{Symbol}
 use Rattle.grammar.specs.declared.Production.{Production}
 use Rattle.grammar.specs.declared.Edge.{Edge}
-use Rattle.grammar.specs.declared.Checked.{Checked}
-use Rattle.grammar.specs.declared.Checked.TheVariants.{Good, Refused}
-use Rattle.grammar.specs.declared.Broken.TheVariants.{Rule, Record}
+use Rattle.grammar.specs.declared.Rule.{Rule}
+use Rattle.grammar.specs.declared.Rule.TheVariants.{HeaderShort, Counts, Offsets, SymbolBad, ProductionBad, NotAbove, NoSuchProduction, NoOccurrence, NoAttribute, NotAllowed}
+use Rattle.grammar.specs.declared.Broken.{Broken}
+use Rattle.grammar.specs.declared.Broken.TheVariants.{Rule as Whole, Record}
 use Rattle.grammar.specs.Grammar.{Grammar, symbol, production, rights}
 use Rattle.grammar.specs.Table.{N, P, E, start_of, at_symbols, at_productions, at_edges, total, width_of, grammar_of}
 use Rattle.grammar.specs.Rules.{producer, symbol_of, key, edge}
@@ -50,45 +51,70 @@ unfoldable pub in_order : ℕ → Edge → Edge → Bool
 in_order zero before e = true
 in_order (suc i) before e = below (key before) (key e)
 
--- ---- the rule that a record breaks, 0 where it breaks none
+-- ---- a record that is read, or the rule that it breaks
 
-unfoldable pub or_rule : Bool → ℕ → ℕ → ℕ
+-- the published number of a rule
+abbrev pub number : Rule → ℕ
+number HeaderShort = 1
+number Counts = 2
+number Offsets = 3
+number SymbolBad = 4
+number ProductionBad = 5
+number NotAbove = 7
+number NoSuchProduction = 10
+number NoOccurrence = 11
+number NoAttribute = 12
+number NotAllowed = 13
+
+unfoldable pub or_rule : {A : Type 0} → Bool → Rule → Result A Rule → Result A Rule
 or_rule true k rest = rest
-or_rule false k rest = k
+or_rule false k rest = Err k
 
-abbrev pub symbol_rule : List ℕ → ℕ → ℕ
-symbol_rule bs i = or_rule (symbol_ok (width_of bs) (symbol (grammar_of bs) i)) 4 0
+abbrev pub symbol_read : ℕ → Symbol → Result Symbol Rule
+symbol_read w s = or_rule (symbol_ok w s) SymbolBad (Ok s)
 
-abbrev pub production_rule : List ℕ → ℕ → ℕ
-production_rule bs i = or_rule (production_ok (N bs) (production (grammar_of bs) i)) 5 0
+abbrev pub production_read : ℕ → Production → Result Production Rule
+production_read n p = or_rule (production_ok n p) ProductionBad (Ok p)
 
 -- the edge e with the number i, after the edge `before`: 10 to 13 in this order, then 7
-unfoldable pub edge_breaks : Grammar → ℕ → Edge → Edge → ℕ
-edge_breaks g i before e =
-    or_rule (ltb e.production (length g.productions)) 10
-    (or_rule (occurrences_ok g e) 11
-    (or_rule (attributes_ok g e) 12
-    (or_rule (target_ok g e) 13
-    (or_rule (in_order i before e) 7 0))))
+unfoldable pub edge_read : Grammar → ℕ → Edge → Edge → Result Edge Rule
+edge_read g i before e =
+    or_rule (ltb e.production (length g.productions)) NoSuchProduction
+    (or_rule (occurrences_ok g e) NoOccurrence
+    (or_rule (attributes_ok g e) NoAttribute
+    (or_rule (target_ok g e) NotAllowed
+    (or_rule (in_order i before e) NotAbove (Ok e)))))
 
-abbrev pub edge_rule : Grammar → ℕ → ℕ
-edge_rule g i = edge_breaks g i (edge g (i - 1)) (edge g i)
+-- by their numbers in a table
+abbrev pub symbol_rule : List ℕ → ℕ → Result Symbol Rule
+symbol_rule bs i = symbol_read (width_of bs) (symbol (grammar_of bs) i)
+
+abbrev pub production_rule : List ℕ → ℕ → Result Production Rule
+production_rule bs i = production_read (N bs) (production (grammar_of bs) i)
+
+abbrev pub edge_rule : Grammar → ℕ → Result Edge Rule
+edge_rule g i = edge_read g i (edge g (i - 1)) (edge g i)
 
 -- ---- the first record that breaks one decides
 
-unfoldable pub refused_at : ℕ → ℕ → Checked → Checked
-refused_at zero i rest = rest
-refused_at (suc k) i rest = Refused (Record (suc k) i)
-
--- of n records from the number i on
-unfoldable pub first_bad : (ℕ → ℕ) → ℕ → ℕ → Checked
-first_bad rule i zero = Good
-first_bad rule i (suc n) = refused_at (rule i) i (first_bad rule (suc i) n)
+-- what a check says: nothing is broken, or what is
+abbrev pub Checked : Type 0
+Checked = Result (Unit {0}) Broken
 
 -- the second check is made where the first finds nothing
 unfoldable pub and_check : Checked → Checked → Checked
-and_check Good next = next
-and_check (Refused b) next = Refused b
+and_check (Ok u) next = next
+and_check (Err b) next = Err b
+
+-- the refusal of the record i, handed up
+abbrev pub handed_up : {A : Type 0} → ℕ → Result A Rule → Checked
+handed_up i (Ok x) = Ok tt
+handed_up i (Err k) = Err (Record (number k) i)
+
+-- of n records from the number i on
+unfoldable pub first_bad : {A : Type 0} → (ℕ → Result A Rule) → ℕ → ℕ → Checked
+first_bad read i zero = Ok tt
+first_bad read i (suc n) = and_check (handed_up i (read i)) (first_bad read (suc i) n)
 
 -- what the table is: good, or refused for the first rule that it breaks
 unfoldable pub refusal : List ℕ → Checked
@@ -98,6 +124,6 @@ refusal bs =
     (cond (offsets_ok bs)
     (and_check (first_bad (symbol_rule bs) 0 (N bs))
     (and_check (first_bad (production_rule bs) 0 (P bs)) (first_bad (edge_rule (grammar_of bs)) 0 (E bs))))
-    (Refused (Rule 3)))
-    (Refused (Rule 2)))
-    (Refused (Rule 1))
+    (Err (Whole (number Offsets))))
+    (Err (Whole (number Counts))))
+    (Err (Whole (number HeaderShort)))

@@ -1,12 +1,11 @@
 -- The theorems about the check, as statements. Assumes nothing.
 use mathlib.Core.List.{List, Memᴰ}
-use Rattle.std.specs.Prelude.{◌↔◌, ◌≡◌, ℕ, ◌<◌}
+use Rattle.std.specs.Prelude.{◌↔◌, ◌≡◌, ℕ, ◌<◌, Ok, Err}
 use Rattle.numbers.specs.Lists.{Below}
 use Rattle.grammar.specs.declared.Symbol.{Symbol}
 use Rattle.grammar.specs.declared.Production.{Production}
 use Rattle.grammar.specs.declared.Edge.{Edge}
 use Rattle.grammar.specs.declared.Broken.{Broken}
-use Rattle.grammar.specs.declared.Checked.TheVariants.{Good, Refused}
 use Rattle.grammar.specs.Grammar.{edges_of}
 use Rattle.grammar.specs.Table.{N, E, width_of, edges_in, grammar_of}
 use Rattle.grammar.specs.Rules.{HasHeader, CountsInRange, OffsetsRight, GoodSymbol, GoodProduction, GoodEdge, AllGood, EdgeGood, Breaks, key, edge}
@@ -15,7 +14,7 @@ use Rattle.grammar.specs.Reading.{run_of}
 
 -- a refusal comes exactly for a table that breaks the rule of its number, with the record of its number, and none that is looked at before
 abbrev pub RefusalExactly : Type 0
-RefusalExactly = (bs : List ℕ) (b : Broken) → (refusal bs ≡ Refused b) ↔ Breaks bs b
+RefusalExactly = (bs : List ℕ) (b : Broken) → (refusal bs ≡ Err b) ↔ Breaks bs b
 
 -- a table that obeys every rule
 pub record Valid (bs : List ℕ) : Type 0 where
@@ -34,4 +33,4 @@ pub record Valid (bs : List ℕ) : Type 0 where
 
 -- a table that is not refused is valid
 abbrev pub TakenIsValid : Type 0
-TakenIsValid = (bs : List ℕ) → refusal bs ≡ Good → Valid bs
+TakenIsValid = (bs : List ℕ) → refusal bs ≡ Ok tt → Valid bs

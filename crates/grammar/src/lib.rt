@@ -1,6 +1,9 @@
 // The numbers and the records that a grammar table is made of, and what reading one gives: what the rules and the code share.
 #![tactic(auto)]
 
+ghost use Rattle.std.specs.Prelude.{◌≡◌};
+ghost use Rattle.grammar.specs.Refusal.{number};
+
 // Of a table, in bytes: its header, and a record of each kind.
 pub const HEADER_BYTES: usize = 24;
 
@@ -76,33 +79,33 @@ pub struct Offsets {
     pub total: u32,
 }
 
-// The left symbol of a production, and how many right symbols it has.
+// A rule, by its published number: those of the whole table, then those of its records. 6, 8 and 9 are no rules.
 #[derive(Clone, Copy, PartialEq, Eq)]
-pub struct Head {
-    pub left: u16,
-    pub n: u16,
+pub enum Rule {
+    HeaderShort = 1,
+    Counts = 2,
+    Offsets = 3,
+    SymbolBad = 4,
+    ProductionBad = 5,
+    NotAbove = 7,
+    NoSuchProduction = 10,
+    NoOccurrence = 11,
+    NoAttribute = 12,
+    NotAllowed = 13,
 }
 
-// A record that was read, or the number of the rule that it breaks. An enum holds no array, so a production comes without its slots.
-#[derive(Clone, Copy, PartialEq, Eq)]
-pub enum Read {
-    Symbol(Symbol),
-    Production(Head),
-    Edge(Edge),
-    Refused(u8),
+impl Rule {
+    pub fn number(self) -> u8
+        ensures { result ≡ number self }
+    {
+        self as u8
+    }
 }
 
 // The rule that is broken, by its number; where it is a rule of records, with the number of the first bad one, counted from 0 in its own
-// table.
+// table. A number that is no rule's can stand here too: who prints or stores one takes any.
 #[derive(Clone, Copy, PartialEq, Eq)]
 pub enum Broken {
     Rule(u8),
     Record(u8, u16),
-}
-
-// What a table is: good, or refused for the first rule that it breaks.
-#[derive(Clone, Copy, PartialEq, Eq)]
-pub enum Checked {
-    Good,
-    Refused(Broken),
 }

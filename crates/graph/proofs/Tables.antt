@@ -7,13 +7,13 @@ use native.Mathlib.Omega.{arith}
 use lib.Dec.{eqb}
 use lib.ListN.{length, take, replicate, get_or-eq_default}
 use borrow.Author.Tests.{eqb-true}
+use Rattle.std.specs.Prelude.{Ok}
 use Rattle.numbers.proofs.Members.{member_at, keep_mem}
 use Rattle.grammar.specs.declared.Node.{Node}
 use Rattle.grammar.specs.declared.Production.{Production}
 use Rattle.grammar.specs.Grammar.{Grammar, no_symbol, no_production, symbol, production, symbol_at, edges_of}
 use Rattle.grammar.specs.Table.{edges_in, grammar_of}
 use Rattle.grammar.specs.Rules.{NodeThere}
-use Rattle.grammar.specs.declared.Checked.TheVariants.{Good}
 use Rattle.grammar.specs.Refusal.{refusal}
 use Rattle.grammar.specs.Reading.{run_of}
 use Rattle.grammar.specs.Valid.{Valid}
@@ -22,7 +22,7 @@ use Rattle.graph.specs.Rows.{own, placed_from, compound}
 use Rattle.graph.specs.Compound.{Within, EdgesWithin}
 use Rattle.graph.proofs.Parts.{table_compound}
 
-module _ (bs : List ℕ) (good : refusal bs ≡ Good) where
+module _ (bs : List ℕ) (good : refusal bs ≡ Ok tt) where
   abbrev g : Grammar
   g = grammar_of bs
 

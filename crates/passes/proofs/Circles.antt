@@ -6,11 +6,11 @@ use native.Mathlib.Decide.{dec_lt}
 use native.Mathlib.Omega.{arith}
 use lib.ListN.{length, get_or, take, drop, length-map, length-take, get_or-eq_default}
 use lib.Seq.{take_at}
+use Rattle.std.specs.Prelude.{Ok}
 use Rattle.numbers.specs.Lists.{written}
 use Rattle.numbers.proofs.Members.{at_map}
 use Rattle.grammar.specs.Grammar.{production, rights}
 use Rattle.grammar.specs.Table.{width_of, grammar_of}
-use Rattle.grammar.specs.declared.Checked.TheVariants.{Good}
 use Rattle.grammar.specs.Refusal.{refusal}
 use Rattle.grammar.proofs.Lookups.{slots_seven}
 use Rattle.graph.specs.Trails.{no_trail}
@@ -35,7 +35,7 @@ none_said bs gs root OutOfSteps k = refl
 none_said bs gs root OutOfRoom k = refl
 
 -- where it is
-pub one_said : (bs : List ℕ) → refusal bs ≡ Good → (gs root : List ℕ) (p : ℕ) → length root ≡ 7
+pub one_said : (bs : List ℕ) → refusal bs ≡ Ok tt → (gs root : List ℕ) (p : ℕ) → length root ≡ 7
     → ring_in bs gs p root ≡ circle_over bs gs root (Circular p)
 one_said bs good gs root p seven =
     let q = production (grammar_of bs) p in

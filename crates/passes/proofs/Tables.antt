@@ -6,10 +6,10 @@ use native.Mathlib.Nat.{le_refl}
 use native.Mathlib.Omega.{arith}
 use lib.ListN.{replicate}
 use lib.Seq.{length-take-le}
+use Rattle.std.specs.Prelude.{Ok}
 use Rattle.grammar.specs.declared.Edge.{Edge}
 use Rattle.grammar.specs.Grammar.{Grammar, production, edges_of}
 use Rattle.grammar.specs.Table.{P, edges_in, grammar_of}
-use Rattle.grammar.specs.declared.Checked.TheVariants.{Good}
 use Rattle.grammar.specs.Refusal.{refusal}
 use Rattle.grammar.specs.Reading.{run_of}
 use Rattle.grammar.specs.Valid.{Valid}
@@ -29,7 +29,7 @@ use Rattle.passes.proofs.Systems.{Agrees, turn_follows}
 
 -- ---- a table that is not refused
 
-module _ (bs : List ℕ) (good : refusal bs ≡ Good) where
+module _ (bs : List ℕ) (good : refusal bs ≡ Ok tt) where
   abbrev g : Grammar
   g = grammar_of bs
 

@@ -2,9 +2,9 @@
 use mathlib.Core.Path.{◌≡◌, refl, ◌∙◌, subst}
 use mathlib.Core.List.{List}
 use Prim.Native.Nat.{ℕ}
+use Rattle.std.specs.Prelude.{Ok, Err}
 use Rattle.numbers.specs.Lists.{up_from}
 use Rattle.grammar.specs.declared.Broken.{Broken}
-use Rattle.grammar.specs.declared.Checked.TheVariants.{Good, Refused as Bad}
 use Rattle.grammar.specs.Table.{P, width_of, grammar_of}
 use Rattle.grammar.specs.Refusal.{refusal}
 use Rattle.grammar.proofs.Lookups.{productions_many}
@@ -23,24 +23,24 @@ use Rattle.passes.specs.Follow.{parts_among}
 
 module _ (bs : List ℕ) where
   -- the list that a pass goes over
-  taking_is : (count : ℕ) (T R : Symbols) → refusal bs ≡ Good → count ≡ P bs → T ≡ if_whole bs (treed (grammar_of bs))
+  taking_is : (count : ℕ) (T R : Symbols) → refusal bs ≡ Ok tt → count ≡ P bs → T ≡ if_whole bs (treed (grammar_of bs))
       → R ≡ if_whole bs (reached (grammar_of bs) T) → parts_among T R (grammar_of bs) (up_from 0 count) ≡ taking (grammar_of bs)
   unfolding taking
   taking_is count T R h c t r =
       rw (r ∙ valid_whole bs (valid bs h) _, t ∙ valid_whole bs (valid bs h) _, productions_many bs, c)
 
   -- what the passes go over is what takes part
-  pub passes_taken : (limit room count : ℕ) (T R : Symbols) (σ : Slices) → refusal bs ≡ Good → count ≡ P bs → room ≡ room_of σ
+  pub passes_taken : (limit room count : ℕ) (T R : Symbols) (σ : Slices) → refusal bs ≡ Ok tt → count ≡ P bs → room ≡ room_of σ
       → T ≡ if_whole bs (treed (grammar_of bs)) → R ≡ if_whole bs (reached (grammar_of bs) T)
       → passes (system_in bs) limit room (parts_among T R (grammar_of bs) (up_from 0 count)) ≡ passes (system_in bs) limit (room_of σ) (taking (grammar_of bs))
   passes_taken limit room count T R σ h c e t r = rw (taking_is count T R h c t r, e)
 
-  pub test_taken : (limit room : ℕ) → refusal bs ≡ Good
+  pub test_taken : (limit room : ℕ) → refusal bs ≡ Ok tt
       → saying (width_of bs) (grammar_of bs) (passes (system_in bs) limit room (taking (grammar_of bs))) ≡ test bs limit room
   unfolding test after_check
   test_taken limit room h = rw h
 
-  pub test_refused : (limit room : ℕ) (b : Broken) → refusal bs ≡ Bad b → test bs limit room ≡ outcome (Refused b) no_root empty 0
+  pub test_refused : (limit room : ℕ) (b : Broken) → refusal bs ≡ Err b → test bs limit room ≡ outcome (Refused b) no_root empty 0
   unfolding test after_check
   test_refused limit room b h = rw h
 

@@ -3,7 +3,6 @@
 
 ghost use Rattle.std.specs.Prelude.{◌≡◌, true, [], ◌∷◌, ◌≤◌, ◌<◌, length, take};
 ghost use Rattle.numbers.specs.Lists.{up_from};
-ghost use Rattle.grammar.specs.declared.Checked.TheVariants.{Good};
 ghost use Rattle.grammar.specs.Table.{P, grammar_of};
 ghost use Rattle.grammar.specs.Refusal.{refusal};
 ghost use Rattle.graph.specs.Trails.{trail, no_trail};
@@ -16,7 +15,7 @@ ghost use Rattle.steps.specs.Step.{goes_on, counts, run_at};
 ghost use Rattle.turns.specs.Turning.{of_symbol, Numbers, Firsts};
 ghost use Rattle.passes.specs.Follow.{ending_of, unsaid, Follows, Roomy, InTurn, over, task_of, combos_in, halts, stored_at, parts_among, circle_over};
 
-use grammar::{Checked, NODES, Production, SLOTS};
+use grammar::{NODES, Production, SLOTS};
 use graph::Trail;
 use parts::WORDS;
 use rules::{Answer, Report};
@@ -140,7 +139,7 @@ fn turn(
     room: usize,
     run: Run,
 ) -> Run
-    requires { (refusal table.now ≡ Good) × (number < P table.now) × Roomy room (held store.old) run × (run.course ≡ Course.Going) }
+    requires { (refusal table.now ≡ Ok tt) × (number < P table.now) × Roomy room (held store.old) run × (run.course ≡ Course.Going) }
     ensures follows { Follows room (λ limit. stated.pass (system_in table.now) limit room
         (parts_among treed.now reached.now (grammar_of table.now) (number ∷ [])))
         (held store.old) run
@@ -179,7 +178,7 @@ fn pass(
     room: usize,
     run: Run,
 ) -> Run
-    requires { (refusal table.now ≡ Good) × (count ≡ P table.now) × Roomy room (held store.old) run }
+    requires { (refusal table.now ≡ Ok tt) × (count ≡ P table.now) × Roomy room (held store.old) run }
     ensures follows { Follows room (λ limit. stated.pass (system_in table.now) limit room
         (parts_among treed.now reached.now (grammar_of table.now) (up_from 0 count)))
         (held store.old) run
@@ -221,7 +220,7 @@ fn passes(
     room: usize,
     limit: u32,
 ) -> Ending
-    requires { (refusal table.now ≡ Good) × (count ≡ P table.now) × (room ≡ room_of (held store.old)) }
+    requires { (refusal table.now ≡ Ok tt) × (count ≡ P table.now) × (room ≡ room_of (held store.old)) }
     ensures tells { Tells (stated.passes (system_in table.now) limit room
         (parts_among treed.now reached.now (grammar_of table.now) (up_from 0 count)))
         (held store.old) (unsaid result) (held store.new) }
@@ -253,7 +252,7 @@ fn circle_said(
     nodes: &mut [u8; NODES],
     marks: &mut [u8; NODES],
 ) -> u8
-    requires { (refusal table.now ≡ Good) × (trail nodes.old marks.old 0 ≡ no_trail) }
+    requires { (refusal table.now ≡ Ok tt) × (trail nodes.old marks.old 0 ≡ no_trail) }
     ensures { trail nodes.new marks.new result ≡ circle_over table.now graphs.now root answer }
 {
     let Answer::Circular(p) = answer else {
@@ -264,7 +263,7 @@ fn circle_said(
 
 // The report, with the circle. Only the graphs of stored entries are read.
 fn reported(table: &[u8], graphs: &[u64], ending: Ending) -> Report
-    requires { (refusal table.now ≡ Good) × (ending.entries ≤ length graphs.now) }
+    requires { (refusal table.now ≡ Ok tt) × (ending.entries ≤ length graphs.now) }
     ensures { result ≡ report_with
         (circle_over table.now (take ending.entries graphs.now) ending.root ending.answer) (unsaid ending) }
 {
@@ -294,7 +293,7 @@ fn reported(table: &[u8], graphs: &[u64], ending: Ending) -> Report
 
 // The passes over the productions of a table that take part.
 fn passes_over(table: &[u8], limit: u32, store: &mut Store<'_>) -> Ending
-    requires { refusal table.now ≡ Good }
+    requires { refusal table.now ≡ Ok tt }
     ensures tells { Tells (stated.passes (system_in table.now) limit (room_of (held store.old))
         (taking (grammar_of table.now)))
         (held store.old) (unsaid result) (held store.new) }
@@ -314,7 +313,7 @@ pub fn test(table: &[u8], limit: u32, store: &mut Store<'_>) -> Report
     ensures lent { Lent store.old store.new }
 {
     let checked = checks::check(table);
-    if let Checked::Refused(broken) = checked {
+    if let Err(broken) = checked {
         return Report {
             answer: Answer::Refused(broken),
             closures: 0,

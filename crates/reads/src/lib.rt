@@ -5,11 +5,10 @@ ghost use Rattle.std.specs.Prelude.{◌≡◌, ◌≤◌, ltb, take, drop};
 ghost use Rattle.numbers.specs.Lists.{every};
 ghost use Rattle.grammar.specs.Grammar.{symbol, production};
 ghost use Rattle.grammar.specs.Table.{N, attributes, width_of, grammar_of};
-ghost use Rattle.grammar.specs.Refusal.{counts_ok, offsets_ok, symbol_ok, production_ok};
-ghost use Rattle.grammar.specs.Steps.{symbol_read, production_read};
+ghost use Rattle.grammar.specs.Refusal.{counts_ok, offsets_ok, symbol_ok, production_ok, symbol_read, production_read};
 
 use grammar::{
-    ATTRIBUTES, Head, MOST_EDGES, MOST_PRODUCTIONS, MOST_SYMBOLS, Production, Read, SLOTS, Symbol,
+    ATTRIBUTES, MOST_EDGES, MOST_PRODUCTIONS, MOST_SYMBOLS, Production, Rule, SLOTS, Symbol,
 };
 use numbers::four_at;
 
@@ -63,14 +62,15 @@ fn symbol_ok(s: Symbol) -> bool
 }
 
 // The symbol s, by rule 4.
-pub fn read_symbol(table: &[u8], s: usize) -> Read
+#[tactic(auto, unfolding(grammar::specs::Refusal::or_rule))]
+pub fn read_symbol(table: &[u8], s: usize) -> Result<Symbol, Rule>
     ensures { result ≡ symbol_read (width_of table.now) (symbol (grammar_of table.now) s) }
 {
     let x = tables::symbol_of(table, s);
     if symbol_ok(x) {
-        Read::Symbol(x)
+        Ok(x)
     } else {
-        Read::Refused(4)
+        Err(Rule::SymbolBad)
     }
 }
 
@@ -107,17 +107,15 @@ fn production_ok(p: Production, symbols: u16) -> bool
 }
 
 // The production p, by rule 5.
-pub fn read_production(table: &[u8], p: usize) -> Read
+#[tactic(auto, unfolding(grammar::specs::Refusal::or_rule))]
+pub fn read_production(table: &[u8], p: usize) -> Result<Production, Rule>
     ensures { result ≡ production_read (N table.now) (production (grammar_of table.now) p) }
 {
     let h = tables::header_of(table);
     let x = tables::production_of(table, p);
     if production_ok(x, h.symbols) {
-        Read::Production(Head {
-            left: x.left,
-            n: x.n,
-        })
+        Ok(x)
     } else {
-        Read::Refused(5)
+        Err(Rule::ProductionBad)
     }
 }

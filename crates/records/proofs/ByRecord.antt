@@ -4,9 +4,9 @@ use mathlib.Core.List.{List}
 use Prim.Native.Nat.{ℕ, ◌≤◌, ◌<◌}
 use native.Mathlib.Omega.{arith}
 use lib.ListN.{length}
+use Rattle.std.specs.Prelude.{Err}
 use Rattle.numbers.specs.Lists.{written}
 use Rattle.grammar.specs.declared.Broken.{Broken}
-use Rattle.grammar.specs.declared.Checked.TheVariants.{Refused as Bad}
 use Rattle.grammar.specs.Refusal.{refusal}
 use Rattle.rules.specs.declared.Entry.{Entry}
 use Rattle.rules.specs.declared.Report.{Report}
@@ -40,5 +40,5 @@ module _ (bs : List ℕ) (limit : ℕ) (before : List Entry) (r : Report) (after
   beyond_before i l = rest_before i (omega (arith, fits))
 
   -- on a refusal all is as before
-  pub refused_before : (b : Broken) → refusal bs ≡ Bad b → after ≡ before
+  pub refused_before : (b : Broken) → refusal bs ≡ Err b → after ≡ before
   refused_before b bad = tested.entries ∙ ap (λ (o : Outcome). written o.entries before) (test_refused bs limit (row_room before) b bad)

@@ -2,8 +2,8 @@
 use mathlib.Core.Path.{◌≡◌, refl}
 use mathlib.Core.List.{[], ◌∷◌, ◌++◌, map}
 use lib.ListN.{take, set}
+use Rattle.std.specs.Prelude.{Ok, Err}
 use Rattle.grammar.specs.declared.Broken.TheVariants.{Rule, Record}
-use Rattle.grammar.specs.declared.Checked.TheVariants.{Good, Refused}
 use Rattle.grammar.specs.Refusal.{refusal}
 use Rattle.rules.specs.Opened.{opened}
 use Rattle.rules.specs.Small.{table_a, table_b}
@@ -39,30 +39,30 @@ pub borders :
     ∷ set (set table_a 91 1) 93 2
     ∷ set (set table_a 48 8) 66 8
     ∷ [])
-    ≡ Good
-    ∷ Refused (Rule 1)
-    ∷ Refused (Rule 3)
-    ∷ Good
-    ∷ Refused (Record 5 0)
-    ∷ Good
-    ∷ Refused (Record 4 0)
-    ∷ Refused (Rule 2)
-    ∷ Refused (Rule 2)
-    ∷ Refused (Record 5 0)
-    ∷ Refused (Record 4 1)
-    ∷ Refused (Record 10 0)
-    ∷ Refused (Record 11 0)
-    ∷ Refused (Record 11 0)
-    ∷ Refused (Record 12 0)
-    ∷ Refused (Record 12 1)
-    ∷ Refused (Record 13 0)
-    ∷ Refused (Record 7 3)
-    ∷ Refused (Record 7 1)
-    ∷ Refused (Record 10 3)
-    ∷ Refused (Record 11 2)
-    ∷ Refused (Record 12 0)
-    ∷ Refused (Record 13 1)
-    ∷ Refused (Record 5 1)
+    ≡ Ok tt
+    ∷ Err (Rule 1)
+    ∷ Err (Rule 3)
+    ∷ Ok tt
+    ∷ Err (Record 5 0)
+    ∷ Ok tt
+    ∷ Err (Record 4 0)
+    ∷ Err (Rule 2)
+    ∷ Err (Rule 2)
+    ∷ Err (Record 5 0)
+    ∷ Err (Record 4 1)
+    ∷ Err (Record 10 0)
+    ∷ Err (Record 11 0)
+    ∷ Err (Record 11 0)
+    ∷ Err (Record 12 0)
+    ∷ Err (Record 12 1)
+    ∷ Err (Record 13 0)
+    ∷ Err (Record 7 3)
+    ∷ Err (Record 7 1)
+    ∷ Err (Record 10 3)
+    ∷ Err (Record 11 2)
+    ∷ Err (Record 12 0)
+    ∷ Err (Record 13 1)
+    ∷ Err (Record 5 1)
     ∷ []
 unfolding opened table_a table_b
 borders = refl

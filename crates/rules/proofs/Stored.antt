@@ -7,10 +7,9 @@ use native.Mathlib.Omega.{arith}
 use lib.Dec.{eqb}
 use lib.ListN.{length, length-append, length-map, length-replicate, length-take}
 use borrow.Author.Tests.{leb-false}
-use Rattle.grammar.specs.declared.Checked.{Checked}
-use Rattle.grammar.specs.declared.Checked.TheVariants.{Good, Refused as Bad}
+use Rattle.std.specs.Prelude.{Ok, Err}
 use Rattle.grammar.specs.Table.{width_of, grammar_of}
-use Rattle.grammar.specs.Refusal.{refusal}
+use Rattle.grammar.specs.Refusal.{Checked, refusal}
 use Rattle.grammar.proofs.Lookups.{slots_seven}
 use Rattle.parts.specs.Rule.{taking}
 use Rattle.rules.specs.declared.Answer.TheVariants.{Noncircular}
@@ -158,7 +157,7 @@ module _ (bs : List ℕ) where
     where
       go : (c : Checked)
           → Counted room (after_check c (saying (width_of bs) (grammar_of bs) (passes (system_in bs) limit room (taking (grammar_of bs)))))
-      go Good =
+      go (Ok u) =
           let c = counted_passes_in limit room (taking (grammar_of bs)) in
           record { count = c.count; sound = c.sound }
-      go (Bad b) = record { count = refl; sound = nothing room }
+      go (Err b) = record { count = refl; sound = nothing room }

@@ -1,10 +1,8 @@
 -- The circularity test: from the bytes of a table, the closure limit and the room to what comes back. Assumes nothing.
-use Rattle.std.specs.Prelude.{List, ℕ}
-use Rattle.grammar.specs.declared.Checked.{Checked}
-use Rattle.grammar.specs.declared.Checked.TheVariants.{Good, Refused as Bad}
+use Rattle.std.specs.Prelude.{List, ℕ, Ok, Err}
 use Rattle.grammar.specs.Grammar.{Grammar, production, rights, edges_of}
 use Rattle.grammar.specs.Table.{width_of, grammar_of}
-use Rattle.grammar.specs.Refusal.{refusal}
+use Rattle.grammar.specs.Refusal.{Checked, refusal}
 use Rattle.parts.specs.Rule.{taking}
 use Rattle.graph.specs.Rows.{compound, closure, has_circle, root_graph}
 use Rattle.graph.specs.declared.Trail.{Trail}
@@ -67,8 +65,8 @@ saying w g o =
 
 -- a bad table is refused: nothing is counted and nothing is stored
 unfoldable pub after_check : Checked → Outcome → Outcome
-after_check Good o = o
-after_check (Bad b) o = outcome (Refused b) no_root empty 0
+after_check (Ok u) o = o
+after_check (Err b) o = outcome (Refused b) no_root empty 0
 
 -- a pass goes over the productions that take part, by number
 unfoldable pub test : List ℕ → ℕ → ℕ → Outcome

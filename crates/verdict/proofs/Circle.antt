@@ -5,12 +5,12 @@ use mathlib.Core.Logic.{◌⊎◌, inl, inr}
 use Prim.Native.Nat.{ℕ, ◌≤◌}
 use native.Mathlib.Omega.{arith}
 use lib.ListN.{length, get_or, take, length-append, length-map, length-take, length-replicate}
+use Rattle.std.specs.Prelude.{Ok}
 use Rattle.grammar.specs.Grammar.{production, rights, edges_of}
 use Rattle.grammar.specs.Table.{width_of, grammar_of}
 use Rattle.grammar.specs.Rules.{Breaks}
 use Rattle.grammar.specs.Refusal.{refusal}
 use Rattle.grammar.specs.declared.Broken.{Broken}
-use Rattle.grammar.specs.declared.Checked.TheVariants.{Good}
 use Rattle.grammar.proofs.Lookups.{slots_seven}
 use Rattle.graph.specs.declared.Trail.{Trail}
 use Rattle.graph.specs.Parts.{most_nodes}
@@ -43,7 +43,7 @@ circle_for bs o = circle_said (width_of bs) (grammar_of bs) o.entries o.report.r
 pub circle_is : (bs : List ℕ) (limit room : ℕ) → (back bs limit room).report.circle ≡ circle_for bs (back bs limit room)
 circle_is bs limit room = go (either bs)
   where
-    go : (refusal bs ≡ Good) ⊎ ((b : Broken) × Breaks bs b) → (back bs limit room).report.circle ≡ circle_for bs (back bs limit room)
+    go : (refusal bs ≡ Ok tt) ⊎ ((b : Broken) × Breaks bs b) → (back bs limit room).report.circle ≡ circle_for bs (back bs limit room)
     go (inl good) = subst (λ (o : Outcome). o.report.circle ≡ circle_for bs o) (sym (taken bs good limit room)) refl
     go (inr (b, h)) = subst (λ (o : Outcome). o.report.circle ≡ circle_for bs o) (sym (refused bs b h limit room)) refl
 
@@ -133,7 +133,7 @@ module _ (bs : List ℕ) (limit room p : ℕ) (h : answer bs limit room ≡ Circ
   abbrev o : Outcome
   o = back bs limit room
 
-  good : refusal bs ≡ Good
+  good : refusal bs ≡ Ok tt
   good = not_refused bs limit room (Circular p) h (λ e. omega arith)
 
   root : Root (system_in bs) (Found (grammar_of bs)) (back bs limit room).entries p (back bs limit room).report.root

@@ -5,10 +5,11 @@ use mathlib.Core.Logic.{◌⊎◌, inl, inr}
 use Prim.Native.Nat.{ℕ}
 use native.Mathlib.Omega.{arith}
 use lib.ListN.{length}
+use Rattle.std.specs.Prelude.{Ok, Err}
 use Rattle.grammar.specs.Grammar.{Grammar}
 use Rattle.grammar.specs.Table.{width_of, grammar_of}
 use Rattle.grammar.specs.Rules.{Breaks}
-use Rattle.grammar.specs.Refusal.{refusal}
+use Rattle.grammar.specs.Refusal.{Checked, refusal}
 use Rattle.grammar.proofs.Refused as rules_shown
 use Rattle.trees.specs.Tree.{Tree, InTable, WellFormed}
 use Rattle.trees.specs.Compound.{NumberHolds}
@@ -20,8 +21,6 @@ use Rattle.trees.proofs.Starts.{from_complete, circle_inside, circle_from_start,
 use Rattle.parts.specs.Rule.{taking}
 use Rattle.parts.specs.Exactly.{Found}
 use Rattle.grammar.specs.declared.Broken.{Broken}
-use Rattle.grammar.specs.declared.Checked.{Checked}
-use Rattle.grammar.specs.declared.Checked.TheVariants.{Good, Refused as Bad}
 use Rattle.rules.specs.declared.Answer.{Answer}
 use Rattle.rules.specs.declared.Answer.TheVariants.{Noncircular, Circular, Refused, OutOfSteps, OutOfRoom}
 use Rattle.rules.specs.Passes.{Outcome, outcome, entry, no_root, empty, pass, passes_from, passes}
@@ -48,7 +47,7 @@ module _ (bs : List ℕ) where
   ran limit room = passes (system_in bs) limit room (taking (grammar_of bs))
 
   -- either the passes are run and the circle is said, or the table breaks a rule
-  pub taken : refusal bs ≡ Good → (limit room : ℕ) → back bs limit room ≡ saying (width_of bs) (grammar_of bs) (ran limit room)
+  pub taken : refusal bs ≡ Ok tt → (limit room : ℕ) → back bs limit room ≡ saying (width_of bs) (grammar_of bs) (ran limit room)
   unfolding test after_check
   taken e limit room =
       ap (λ (c : Checked). after_check c (saying (width_of bs) (grammar_of bs) (ran limit room))) e
@@ -57,29 +56,29 @@ module _ (bs : List ℕ) where
   unfolding test after_check
   refused b h limit room = rw ((rules_shown.refused_exactly bs b).1 h)
 
-  pub either : (refusal bs ≡ Good) ⊎ ((b : Broken) × Breaks bs b)
+  pub either : (refusal bs ≡ Ok tt) ⊎ ((b : Broken) × Breaks bs b)
   either = go (refusal bs) refl
     where
-      go : (c : Checked) → refusal bs ≡ c → (refusal bs ≡ Good) ⊎ ((b : Broken) × Breaks bs b)
-      go Good e = inl e
-      go (Bad b) e = inr (b, (rules_shown.refused_exactly bs b).0 e)
+      go : (c : Checked) → refusal bs ≡ c → (refusal bs ≡ Ok tt) ⊎ ((b : Broken) × Breaks bs b)
+      go (Ok u) e = inl e
+      go (Err b) e = inr (b, (rules_shown.refused_exactly bs b).0 e)
 
-  when_unbroken : NoRuleBroken bs → refusal bs ≡ Good
+  when_unbroken : NoRuleBroken bs → refusal bs ≡ Ok tt
   when_unbroken n = go either
     where
-      go : (refusal bs ≡ Good) ⊎ ((b : Broken) × Breaks bs b) → refusal bs ≡ Good
+      go : (refusal bs ≡ Ok tt) ⊎ ((b : Broken) × Breaks bs b) → refusal bs ≡ Ok tt
       go (inl e) = e
       go (inr (b, h)) = absurd (n b h)
 
   -- an answer other than a refusal is that of the passes
-  pub not_refused : (limit room : ℕ) (a : Answer) → answer bs limit room ≡ a → ¬ (case a ≡ 2) → refusal bs ≡ Good
+  pub not_refused : (limit room : ℕ) (a : Answer) → answer bs limit room ≡ a → ¬ (case a ≡ 2) → refusal bs ≡ Ok tt
   not_refused limit room a h n = go either
     where
-      go : (refusal bs ≡ Good) ⊎ ((k : Broken) × Breaks bs k) → refusal bs ≡ Good
+      go : (refusal bs ≡ Ok tt) ⊎ ((k : Broken) × Breaks bs k) → refusal bs ≡ Ok tt
       go (inl e) = e
       go (inr (k, b)) = absurd (n (ap case (sym h) ∙ ap (λ (o : Outcome). case o.report.answer) (refused k b limit room)))
 
-  module _ (good : refusal bs ≡ Good) where
+  module _ (good : refusal bs ≡ Ok tt) where
     pub sound : (limit room : ℕ) → runs.Sound (system_in bs) (Found (grammar_of bs)) limit room (back bs limit room)
     sound limit room =
         let W = system_in bs in
@@ -94,11 +93,11 @@ refused_exactly bs limit room k = record {
   nothing = λ b. refused bs k b limit room;
 }
   where
-    sound_answer : refusal bs ≡ Good
+    sound_answer : refusal bs ≡ Ok tt
         → runs.Says (system_in bs) (Found (grammar_of bs)) limit room (ran bs limit room) (said (ran bs limit room))
     sound_answer e = (runs_shown.outcome_sound (system_in bs) (taking (grammar_of bs)) limit room).says
 
-    go : answer bs limit room ≡ Refused k → (refusal bs ≡ Good) ⊎ ((j : Broken) × Breaks bs j) → Breaks bs k
+    go : answer bs limit room ≡ Refused k → (refusal bs ≡ Ok tt) ⊎ ((j : Broken) × Breaks bs j) → Breaks bs k
     go h (inl e) =
         absurd
         (subst (runs.Says (system_in bs) (Found (grammar_of bs)) limit room (ran bs limit room))
@@ -112,7 +111,7 @@ refused_exactly bs limit room k = record {
 pub entries_shown : EntriesShownAlways back
 entries_shown bs limit room k l = go (either bs)
   where
-    go : (refusal bs ≡ Good) ⊎ ((k : Broken) × Breaks bs k) → EntryShown bs k (back bs limit room)
+    go : (refusal bs ≡ Ok tt) ⊎ ((k : Broken) × Breaks bs k) → EntryShown bs k (back bs limit room)
     go (inl good) =
         let g = grammar_of bs in
         let o = obeys bs good in
@@ -177,7 +176,7 @@ start_without_tree bs limit room unbroken none =
 pub limits_kept : LimitsKeptAlways back
 limits_kept bs limit R = go (either bs)
   where
-    go : (refusal bs ≡ Good) ⊎ ((k : Broken) × Breaks bs k) → LimitsKept limit R (back bs limit R)
+    go : (refusal bs ≡ Ok tt) ⊎ ((k : Broken) × Breaks bs k) → LimitsKept limit R (back bs limit R)
     go (inl e) =
         let s = sound bs e limit R in
         let says = runs.Says (system_in bs) (Found (grammar_of bs)) limit R (back bs limit R) in
@@ -201,7 +200,7 @@ limits_kept bs limit R = go (either bs)
 pub steps_exactly : StepsExactlyAlways back
 steps_exactly bs L M room lt = go (either bs)
   where
-    go : (refusal bs ≡ Good) ⊎ ((k : Broken) × Breaks bs k) → StepsExactly bs L M room (back bs L room)
+    go : (refusal bs ≡ Ok tt) ⊎ ((k : Broken) × Breaks bs k) → StepsExactly bs L M room (back bs L room)
     go (inl e) =
         let x =
         steps_still (width_of bs) (grammar_of bs) L (ran bs L room) (ran bs M room)
@@ -222,7 +221,7 @@ steps_exactly bs L M room lt = go (either bs)
 pub room_exactly : RoomExactlyAlways back
 room_exactly bs limit l R S lt low high = go (either bs)
   where
-    go : (refusal bs ≡ Good) ⊎ ((k : Broken) × Breaks bs k) → RoomExactly bs limit l R S (back bs limit R)
+    go : (refusal bs ≡ Ok tt) ⊎ ((k : Broken) × Breaks bs k) → RoomExactly bs limit l R S (back bs limit R)
     go (inl e) =
         let W = system_in bs in
         let c = ap (λ (o : Outcome). o.report.closures) (taken bs e limit R) in
@@ -247,7 +246,7 @@ room_exactly bs limit l R S lt low high = go (either bs)
 pub room_counts : RoomCountsAlways back
 room_counts bs limit R unbroken calm enough = go (answer bs limit R) refl s.says
   where
-    good : refusal bs ≡ Good
+    good : refusal bs ≡ Ok tt
     good = when_unbroken bs unbroken
 
     s : runs.Sound (system_in bs) (Found (grammar_of bs)) limit R (back bs limit R)
@@ -328,7 +327,7 @@ pub never_still_start : (bs : List ℕ) (limit room : ℕ) → answer bs limit r
 never_still_start bs limit room h t r = never_still bs limit room h t (from_root (grammar_of bs) t r)
 
 -- on a tree with a circle
-still_left : (bs : List ℕ) → refusal bs ≡ Good → (t : Tree) → TreeOf bs t → HasCircle bs t → StandsStillLeft bs t
+still_left : (bs : List ℕ) → refusal bs ≡ Ok tt → (t : Tree) → TreeOf bs t → HasCircle bs t → StandsStillLeft bs t
 still_left bs good t complete circle = record {
   some = evaluators.evaluator g t;
   each = λ ev. stuck _;

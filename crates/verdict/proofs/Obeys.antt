@@ -5,10 +5,10 @@ use mathlib.Core.List.{List, Memᴰ}
 use Prim.Native.Nat.{ℕ, ◌+◌, ◌*◌}
 use native.Mathlib.Omega.{arith}
 use lib.ListN.{length}
+use Rattle.std.specs.Prelude.{Ok}
 use Rattle.numbers.specs.Lists.{up_from}
 use Rattle.grammar.specs.declared.Production.{Production}
 use Rattle.grammar.specs.Table.{P, width_of, at_productions, production_in, grammar_of}
-use Rattle.grammar.specs.declared.Checked.TheVariants.{Good}
 use Rattle.grammar.specs.Refusal.{refusal}
 use Rattle.grammar.proofs.Lookups.{slots_many}
 use Rattle.grammar.proofs.Valid.{valid}
@@ -23,7 +23,7 @@ slots_there bs p m =
     let r = Memᴰ.of_map (λ i. production_in bs (at_productions bs + 18 * i)) (up_from 0 (P bs)) m in
     ap (λ (q : Production). length q.slots) (sym r.2) ∙ slots_many bs (at_productions bs + 18 * r.0)
 
-pub obeys : (bs : List ℕ) → refusal bs ≡ Good → WellFormed (grammar_of bs) × AtMost (width_of bs) (grammar_of bs)
+pub obeys : (bs : List ℕ) → refusal bs ≡ Ok tt → WellFormed (grammar_of bs) × AtMost (width_of bs) (grammar_of bs)
 obeys bs e =
     let v = valid bs e in (
       record {
@@ -34,5 +34,5 @@ obeys bs e =
     )
 
 -- the rule finds the productions that take part
-pub exact : (bs : List ℕ) → refusal bs ≡ Good → Exactly (grammar_of bs)
+pub exact : (bs : List ℕ) → refusal bs ≡ Ok tt → Exactly (grammar_of bs)
 exact bs e = valid_exactly bs (valid bs e)

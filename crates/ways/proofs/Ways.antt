@@ -10,13 +10,13 @@ use lib.ListN.{length, get_or, take, drop, length-take, drop_of_length-le}
 use lib.Seq.{drop-cons, take_at, drop_at, get_or-take}
 use borrow.Author.Tests.{ne_eqb}
 use contract.Monad.{fact_mono}
+use Rattle.std.specs.Prelude.{Ok}
 use Rattle.numbers.specs.Lists.{up_from, written}
 use Rattle.grammar.specs.Grammar.{production}
 use Rattle.grammar.specs.Table.{width_of, grammar_of}
 use Rattle.grammar.specs.Rules.{EdgeBreaks, Breaks}
 use Rattle.grammar.specs.declared.Broken.{Broken}
 use Rattle.grammar.specs.declared.Broken.TheVariants.{Record}
-use Rattle.grammar.specs.declared.Checked.TheVariants.{Good}
 use Rattle.grammar.specs.Refusal.{refusal}
 use Rattle.graph.specs.Parts.{most_nodes}
 use Rattle.trees.proofs.Values.{length_rights}
@@ -97,7 +97,7 @@ program_of_records M 𝓤 𝓛 mem run κs a r s =
 
 -- ---- what an answer leaves at 0
 
-module _ (bs : List ℕ) (good : refusal bs ≡ Good) where
+module _ (bs : List ℕ) (good : refusal bs ≡ Ok tt) where
   -- the slots that count are those of the right symbols
   others : (n p : ℕ) (slots : List ℕ) (o : Outcome) → Slots (system_in bs) (Found (grammar_of bs)) o.entries n p slots
       → OthersZero (kids_in bs p) slots
@@ -116,7 +116,7 @@ module _ (bs : List ℕ) (good : refusal bs ≡ Good) where
 unprinted_zero : (bs : List ℕ) (limit room : ℕ) → UnprintedZero (kids_in bs) (back bs limit room)
 unprinted_zero bs limit room = go (either bs)
   where
-    go : (refusal bs ≡ Good) ⊎ ((k : Broken) × Breaks bs k) → UnprintedZero (kids_in bs) (back bs limit room)
+    go : (refusal bs ≡ Ok tt) ⊎ ((k : Broken) × Breaks bs k) → UnprintedZero (kids_in bs) (back bs limit room)
     go (inl good) =
         let s = sound bs good limit room in
         record {
@@ -172,7 +172,7 @@ report_told r h l n =
       circle = record { nodes = nodes j; marks = marks j; len = r.circle.len };
     }
 
-module _ (bs : List ℕ) (good : refusal bs ≡ Good) where
+module _ (bs : List ℕ) (good : refusal bs ≡ Ok tt) where
   kids_few : (p : ℕ) → kids_in bs p ≤ 7
   kids_few p =
       let slots = slots_seven bs p in
@@ -196,7 +196,7 @@ module _ (bs : List ℕ) (good : refusal bs ≡ Good) where
 pub numbers_tell : NumbersTell
 numbers_tell bs limit room = go (either bs)
   where
-    go : (refusal bs ≡ Good) ⊎ ((k : Broken) × Breaks bs k) → unflat (flat (back bs limit room).report) ≡ (back bs limit room).report
+    go : (refusal bs ≡ Ok tt) ⊎ ((k : Broken) × Breaks bs k) → unflat (flat (back bs limit room).report) ≡ (back bs limit room).report
     go (inl good) =
         let t = said_told bs good limit room (back bs limit room) (answer bs limit room) (sound bs good limit room).says in
         report_told (back bs limit room).report t.0 t.1 (places_said bs limit room)

@@ -1,7 +1,7 @@
 -- `edges::read_edge` meets its contract: each return by the tests that led there. Assumes nothing.
 use mathlib.Core.Path.{sym, ap, ◌∙◌}
 use Rattle.grammar.specs.Table.{grammar_of}
-use Rattle.grammar.specs.Steps.{edge_read}
+use Rattle.grammar.specs.Refusal.{edge_read}
 use Rattle.grammar.proofs.Handing.{read_ten, read_eleven, read_twelve, read_thirteen, read_seven, read_whole}
 use Rattle.edges.proofs.Asked.{there, is_there, not_there, occurrences_told, attributes_told, target_told}
 use Rattle.edges.proofs.read_edge.Goals as goal

@@ -27,10 +27,10 @@ module _ (bs : List ℕ) (limit : ℕ) {σ τ : Slices} {r : Report} (told : Tel
       omega
       (arith, ap (λ (x : Report). x.entries) told.report, stored.count, (entries_fit _ σ r τ stored.sound.slots told).1)
 
-pub returns-in-Refused-clause-tested : goal.returns-in-Refused-clause-tested
-returns-in-Refused-clause-tested c =
+pub returns-in-Err-clause-tested : goal.returns-in-Err-clause-tested
+returns-in-Err-clause-tested c =
     tells_refused _ _ _
-    (test_refused c.args.table.now _ _ _ (sym c.check-checked.ensures ∙ c.in-Refused.is))
+    (test_refused c.args.table.now _ _ _ (sym c.check-checked.ensures ∙ c.in-Err.is))
     c.no_trail.ensures
 
 pub passes_over-ending-requires : goal.passes_over-ending-requires

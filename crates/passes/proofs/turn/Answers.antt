@@ -5,12 +5,12 @@ use mathlib.Core.Path.{◌≡◌, refl, sym, ap, ◌∙◌, subst}
 use Prim.Native.Nat.{ℕ, ◌≤◌}
 use native.Mathlib.Omega.{arith}
 use lib.ListN.{length, replicate}
+use Rattle.std.specs.Prelude.{Ok}
 use Rattle.grammar.specs.declared.Production.{Production}
 use Rattle.grammar.specs.Grammar.{production}
 use Rattle.grammar.specs.Table.{grammar_of}
 use Rattle.grammar.specs.Reading.{run_of}
 use Rattle.grammar.specs.Refusal.{refusal}
-use Rattle.grammar.specs.declared.Checked.TheVariants.{Good}
 use Rattle.graph.proofs.Tables.{few_rights}
 use Rattle.parts.specs.Rule.{takes_part}
 use Rattle.steps.specs.declared.Run.{Run}
@@ -29,7 +29,7 @@ use Rattle.passes.proofs.Tables.{few_productions, turn_ready, task_turn}
 use Rattle.passes.proofs.turn.Goals as goal
 
 -- the first candidates are looked for, of as many right symbols as the production has
-module _ (bs : List ℕ) (good : refusal bs ≡ Good) (p room : ℕ) (σ : Slices) (run : Run) (roomy : Roomy room σ run) (found : Production)
+module _ (bs : List ℕ) (good : refusal bs ≡ Ok tt) (p room : ℕ) (σ : Slices) (run : Run) (roomy : Roomy room σ run) (found : Production)
     (read : found ≡ production (grammar_of bs) p) where
   slots_are : found.slots ≡ (production (grammar_of bs) p).slots
   slots_are = ap (λ (x : Production). x.slots) read
