@@ -37,11 +37,8 @@ impl SymbolSet {
     fn has(&self, s: u16) -> bool
         ensures { result ≡ sets.has self.now.words s }
     {
-        if MOST_SYMBOLS <= s {
-            return false;
-        }
         let k = s as usize;
-        (self.words[k / 64] >> (k % 64)) & 1 == 1
+        s < MOST_SYMBOLS && (self.words[k / 64] >> (k % 64)) & 1 == 1
     }
 
     // Whether there may be such a symbol; else nothing changes.
@@ -79,7 +76,7 @@ fn two_in(bytes: &[u8], at: usize) -> u16
     requires { at + 1 < length bytes.now }
     ensures { result ≡ le2 bytes.now at }
 {
-    bytes[at] as u16 + 256 * (bytes[at + 1] as u16)
+    u16::from_le_bytes([bytes[at], bytes[at + 1]])
 }
 
 impl Record<'_> {
@@ -195,7 +192,8 @@ impl Step for Spread<'_> {
 
 // ---- walks over the productions
 
-// One walk, up from the first or down from the last; whether something was added.
+// One walk, up from the first or down from the last; whether something was added. The direction is a flag, since 0..n and (0..n).rev() are of
+// two types: two loops would say the step twice.
 fn walk<S: Step>(table: &[u8], step: &S, set: &mut SymbolSet, up: bool) -> bool
     requires { Whole table.now }
     ensures { (set.new.words
@@ -254,9 +252,10 @@ pub fn treed_of(table: &[u8]) -> SymbolSet
     ensures { result.words ≡ rule.if_whole table.now (rule.treed (grammar_of table.now)) }
 {
     if is_whole(table) {
-        return grown_out(table, &Grow, SymbolSet::empty());
+        grown_out(table, &Grow, SymbolSet::empty())
+    } else {
+        SymbolSet::empty()
     }
-    SymbolSet::empty()
 }
 
 // The symbols that are reached from the start symbol, where those of `treed` have a finite tree.
@@ -265,9 +264,10 @@ pub fn reached_of(table: &[u8], treed: &SymbolSet) -> SymbolSet
 {
     if is_whole(table) {
         let begun = begin(treed, header_of(table).start);
-        return grown_out(table, &Spread { trees: treed }, begun);
+        grown_out(table, &Spread { trees: treed }, begun)
+    } else {
+        SymbolSet::empty()
     }
-    SymbolSet::empty()
 }
 
 // ---- one production

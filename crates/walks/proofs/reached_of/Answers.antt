@@ -17,5 +17,5 @@ returns-then-is_whole c =
     c.grown_out.ensures ∙ ap (grown_out (walk (spread T) (grammar_of c.args.table.now).productions)) from
     ∙ set_whole _ _ (sym c.is_whole.ensures ∙ c.if-is_whole.true)
 
-pub returns : goal.returns
-returns c = c.empty.ensures ∙ set_short _ _ (sym c.is_whole.ensures ∙ c.if-is_whole.false)
+pub returns-else-is_whole : goal.returns-else-is_whole
+returns-else-is_whole c = c.empty.ensures ∙ set_short _ _ (sym c.is_whole.ensures ∙ c.if-is_whole.false)

@@ -2,7 +2,7 @@
 -- Assumes nothing.
 use mathlib.Core.Path.{◌≡◌, sym, ap, ◌∙◌}
 use mathlib.Core.Bool.{cond}
-use Prim.Native.Nat.{◌+◌, ◌-◌, ◌<◌}
+use Prim.Native.Nat.{◌-◌, ◌<◌}
 use native.Mathlib.Omega.{arith}
 use Rattle.grammar.proofs.Lookups.{production_in_part}
 use Rattle.parts.proofs.Walks.{step}
@@ -19,10 +19,10 @@ loop-i-preserved g c =
     let n = c.from-n.result in
     let number = c.if-up.number in
     let f = step (g.S.Step.test a.step.now) (g.S.Step.targets a.step.now) in
-    let at : (number ≡ cond a.up i (n - (i + 1))) × (number < n) =
+    let at : (number ≡ cond a.up i (n - 1 - i)) × (number < n) =
     elim c.if-up.branch [
       | then-up w ↦ (rw w.if-up.true w.number-is, omega (arith, w.number-is, c.loop-i-test.true))
-      | else-up w ↦ (rw w.if-up.false (omega (arith, w.number-is)), omega (arith, w.number-is, c.loop-i-test.true))
+      | else-up w ↦ (rw w.if-up.false w.number-is, omega (arith, w.number-is, c.loop-i-test.true))
     ] in (
       inv.0,
       inv.1,
