@@ -1,6 +1,6 @@
 -- What the code does to a set with one symbol, the symbols of a list and one production. Assumes nothing.
 use mathlib.Core.Path.{◌≡◌, refl, sym, ap, ap₂, subst, ◌∙◌}
-use mathlib.Core.Bool.{Bool, true, false, not, ◌&&◌, ◌||◌, true≢false}
+use mathlib.Core.Bool.{Bool, true, false, not, ◌&&◌, true≢false}
 use mathlib.Core.List.Memᴰ
 use mathlib.Core.List.{List, [], ◌∷◌}
 use mathlib.Core.Logic.{⊎_elim}
@@ -23,7 +23,7 @@ use Rattle.std.specs.List.{list_all, range_with_len}
 use Rattle.parts.specs.Sets.{Symbols, has, add, add_all, add_if}
 use Rattle.parts.specs.Rule.{takes_part}
 use Rattle.parts.proofs.Sets.{In, IsSet, in_low, add_past, add_set, add_here, add_more, all_set, all_here, all_more, if_same}
-use Rattle.parts.proofs.Sizes.{same_or_more}
+use Rattle.parts.proofs.Sizes.{size, same_or_more}
 use Rattle.parts.proofs.Walks.{step}
 use Rattle.parts.proofs.Rule.{all_decides, grows, spreads, only_left}
 use Rattle.walks.specs.Walk.{Added}
@@ -55,14 +55,16 @@ module _ (ss : List ℕ) (k : ℕ) where
 pub added_nothing : (A : Symbols) → Added A A false
 added_nothing A = record { nothing = λ _. refl; something = λ e. absurd (true≢false (sym e)) }
 
-pub added_either : (A B C : Symbols) (a b : Bool) → Added A B a → Added B C b → Added A C (a || b)
-added_either A B C a b first next = go a b first next
-  where
-    go : (a b : Bool) → Added A B a → Added B C b → Added A C (a || b)
-    go false b first next = subst (λ D. Added D C b) (first.nothing refl) next
-    go true false first next = subst (λ D. Added A D true) (sym (next.nothing refl)) first
-    go true true first next =
-        record { nothing = λ e. absurd (true≢false e); something = λ _. omega (arith, first.something refl, next.something refl) }
+module _ {A B C : Symbols} {more : Bool} (first : Added A B more) where
+  pub added_more : Added B C true → Added A C true
+  added_more next = record { nothing = λ e. absurd (true≢false e); something = λ _. grew more first }
+    where
+      grew : (b : Bool) → Added A B b → size A < size C
+      grew true added = omega (arith, added.something refl, next.something refl)
+      grew false added = omega (arith, ap size (added.nothing refl), next.something refl)
+
+  pub added_same : Added B C false → Added A C more
+  added_same next = subst (λ D. Added A D more) (sym (next.nothing refl)) first
 
 -- a symbol that was not there
 pub added_one : (A : Symbols) (s : ℕ) → IsSet A → has A s ≡ false → (b : Bool) → b ≡ ltb s 256 → Added A (add A s) b

@@ -209,7 +209,9 @@ fn walk<S: Step>(table: &[u8], step: &S, set: &mut SymbolSet, up: bool) -> bool
         let production = Record {
             bytes: &table[at..at + PRODUCTION_BYTES],
         };
-        more |= step.take(&production, set);
+        if step.take(&production, set) {
+            more = true;
+        }
     }
     more
 }

@@ -1,15 +1,16 @@
 -- `walks::walk` meets its contract. The loop's invariant: the walk over the productions that are left gives what the whole walk gives.
 -- Assumes nothing.
-use mathlib.Core.Path.{◌≡◌, sym, ap, ◌∙◌}
+use mathlib.Core.Path.{◌≡◌, sym, ap, subst, ◌∙◌}
 use mathlib.Core.Bool.{cond}
 use Prim.Native.Nat.{◌-◌, ◌<◌}
 use native.Mathlib.Omega.{arith}
 use Rattle.grammar.proofs.Lookups.{production_in_part}
 use Rattle.parts.proofs.Walks.{step}
-use Rattle.walks.proofs.Steps.{added_either}
+use Rattle.walks.specs.Walk.{Added}
+use Rattle.walks.proofs.Steps.{added_more, added_same}
 use Rattle.walks.proofs.Orders.{walk_next, walk_done}
 use Rattle.walks.proofs.walk.Goals as goal
-use Rattle.walks.proofs.walk.Goals.{then-up, else-up}
+use Rattle.walks.proofs.walk.Goals.{then-up, else-up, then-take, else-take}
 
 pub loop-i-preserved : goal.loop-i-preserved
 loop-i-preserved g c =
@@ -26,10 +27,17 @@ loop-i-preserved g c =
     ] in (
       inv.0,
       inv.1,
-      walk_next f a.table.now a.up i c.loop-i.set.words c.take-more.new.set.words n _ number c.loop-i-test.true inv.0 inv.1 at
-          (c.take-more.ensures.0 ∙ ap (f c.loop-i.set.words) (production_in_part a.table.now _ _ 0 _ (omega arith) (omega arith)))
+      walk_next f a.table.now a.up i c.loop-i.set.words c.take.new.set.words n _ number c.loop-i-test.true inv.0 inv.1 at
+          (c.take.ensures.0 ∙ ap (f c.loop-i.set.words) (production_in_part a.table.now _ _ 0 _ (omega arith) (omega arith)))
           ∙ inv.2,
-      added_either a.set.now.words c.loop-i.set.words c.take-more.new.set.words c.loop-i.more c.take-more.result inv.3 c.take-more.ensures.1,
+      elim c.if-take.branch [
+        | then-take w ↦
+            subst (Added a.set.now.words c.take.new.set.words) (sym w.more-is)
+            (added_more inv.3 (subst (Added c.loop-i.set.words c.take.new.set.words) w.if-take.true c.take.ensures.1))
+        | else-take w ↦
+            subst (Added a.set.now.words c.take.new.set.words) (sym w.more-is)
+            (added_same inv.3 (subst (Added c.loop-i.set.words c.take.new.set.words) w.if-take.false c.take.ensures.1))
+      ],
     )
 
 pub returns : goal.returns
