@@ -6,15 +6,13 @@ use native.Mathlib.Nat.{le_refl, le_trans}
 use native.Mathlib.Omega.{arith}
 use lib.ListN.{drop}
 use lib.Seq.{drop-drop}
-use Rattle.rules.specs.declared.Answer.{Answer}
-use Rattle.steps.specs.declared.Course.{Course}
-use Rattle.steps.specs.declared.Course.TheVariants.{Going, Stopped}
+use Rattle.std.specs.Prelude.{Result, Ok, Err}
 use Rattle.steps.specs.declared.Run.{Run}
+use Rattle.steps.specs.declared.Stop.{Stop}
 use Rattle.steps.specs.declared.Task.{Task}
-use Rattle.steps.specs.Step.{goes_on}
 use Rattle.rules.specs.Passes.{System, State, Ran, going, stopped, and_then, try, tries, turn, pass}
 use Rattle.passes.specs.Slices.{Slices}
-use Rattle.passes.specs.Follow.{state_of, ran_by, ran_of, Beyond, Kept, Follows, Roomy, InTurn}
+use Rattle.passes.specs.Follow.{state_of, run_in, Beyond, Kept, Follows, Roomy, InTurn}
 
 -- ---- what is kept
 
@@ -68,14 +66,13 @@ module _ (room : ℕ) (σ : Slices) (r : Run) (τ : Slices) (q : Run) (a : Kept 
 
 -- a turn still goes on
 pub kept_ready : (k : Task) (rights : List ℕ) (first : ℕ) (σ : Slices) (r : Run) (τ : Slices) (q : Run)
-    → InTurn k rights first σ r → Kept k.room σ r τ q → q.course ≡ Going → InTurn k rights first τ q
-kept_ready k rights first σ r τ q h a g =
+    → InTurn k rights first σ r → Kept k.room σ r τ q → InTurn k rights first τ q
+kept_ready k rights first σ r τ q h a =
     record {
       roomy = kept_roomy k.room σ r τ q a h.roomy;
       first_held = le_trans h.first_held a.more;
       few = h.few;
       slots = h.slots;
-      going = g;
     }
 
 -- ---- `and_then`
@@ -92,79 +89,38 @@ pub then_same : (x : Ran) (f g : State → Ran) → ((s : State) → f s ≡ g s
 then_same (going s) f g h = h s
 then_same (stopped a root s) f g h = refl
 
-then_here : (c : Course) (root : List ℕ) (s : State) (f g : State → Ran) → f s ≡ g s
-    → and_then (ran_by c root s) f ≡ and_then (ran_by c root s) g
-then_here Going root s f g h = h
-then_here (Stopped a) root s f g h = refl
-
-module _ (limit : ℕ) (σ : Slices) (r : Run) where
-  pub ran_going : r.course ≡ Going → ran_of limit σ r ≡ going (state_of limit σ r)
-  ran_going h = ap (λ (c : Course). ran_by c r.root (state_of limit σ r)) h
-
-  pub ran_stopped : (a : Answer) → r.course ≡ Stopped a → ran_of limit σ r ≡ stopped a r.root (state_of limit σ r)
-  ran_stopped a h = ap (λ (c : Course). ran_by c r.root (state_of limit σ r)) h
-
 -- ---- following
 
 module _ (room : ℕ) (σ : Slices) (r : Run) where
-  pub follows_nothing : r.stored ≤ room → Follows room (λ limit. going) σ r σ r
+  pub follows_nothing : r.stored ≤ room → Follows room (λ limit. going) σ r σ (Ok r)
   follows_nothing h =
       record {
         kept = kept_same room σ r r refl (le_refl _) h;
-        ran = λ limit l. then_going (ran_of limit σ r);
+        ran = λ limit l. refl;
       }
 
-  -- a run that has stopped does nothing more, whatever the rule
-  pub follows_still : (rule : ℕ → State → Ran) → r.stored ≤ room → (a : Answer) → r.course ≡ Stopped a → Follows room rule σ r σ r
-  follows_still rule h a g =
-      record {
-        kept = kept_same room σ r r refl (le_refl _) h;
-        ran =
-            λ limit l. rw (ran_stopped limit σ r a g);
-      }
-
-  module _ (f g : ℕ → State → Ran) (τ : Slices) (q : Run) (a : Follows room f σ r τ q) where
-    pub follows_then : (υ : Slices) (p : Run) → Follows room g τ q υ p → Follows room (λ limit s. and_then (f limit s) (g limit)) σ r υ p
-    follows_then υ p b =
+  module _ (f g : ℕ → State → Ran) (τ : Slices) where
+    pub follows_then : (q : Run) → Follows room f σ r τ (Ok q) → (υ : Slices) (p : Result Run Stop) → Follows room g τ q υ p
+        → Follows room (λ limit s. and_then (f limit s) (g limit)) σ r υ p
+    follows_then q a υ p b =
         record {
-          kept = kept_then room σ r τ q a.kept υ p b.kept;
+          kept = kept_then room σ r τ q a.kept υ (run_in p) b.kept;
           ran =
               λ limit l. b.ran limit (le_trans a.kept.left l)
-              ∙ ap (λ (x : Ran). and_then x (g limit)) (a.ran limit l)
-              ∙ then_assoc (ran_of limit σ r) (f limit) (g limit);
+              ∙ ap (λ (x : Ran). and_then x (g limit)) (a.ran limit l);
         }
 
-    -- the same rule, where it is the same at the state that σ and r say
-    pub follows_here : ((limit : ℕ) → f limit (state_of limit σ r) ≡ g limit (state_of limit σ r)) → Follows room g σ r τ q
-    follows_here h =
-        record {
-          kept = a.kept;
-          ran =
-              λ limit l. a.ran limit l
-              ∙ then_here r.course r.root (state_of limit σ r) (f limit) (g limit) (h limit);
-        }
+    -- a run that has stopped does nothing more, whatever the rule
+    pub follows_stopped : (q : Stop) → Follows room f σ r τ (Err q) → Follows room (λ limit s. and_then (f limit s) (g limit)) σ r τ (Err q)
+    follows_stopped q a = record { kept = a.kept; ran = λ limit l. ap (λ (x : Ran). and_then x (g limit)) (a.ran limit l) }
 
-    pub follows_same : ((limit : ℕ) (s : State) → f limit s ≡ g limit s) → Follows room g σ r τ q
-    follows_same h = follows_here (λ limit. h limit (state_of limit σ r))
+    module _ (q : Result Run Stop) (a : Follows room f σ r τ q) where
+      -- the same rule, where it is the same at the state that σ and r say
+      pub follows_here : ((limit : ℕ) → f limit (state_of limit σ r) ≡ g limit (state_of limit σ r)) → Follows room g σ r τ q
+      follows_here h = record { kept = a.kept; ran = λ limit l. a.ran limit l ∙ h limit }
 
--- of a run that goes on only what is left and what is stored counts
-pub follows_going : (room : ℕ) (rule : ℕ → State → Ran) (σ : Slices) (r : Run) (τ : Slices) (q : Run) → r.course ≡ Going
-    → Follows room rule σ (goes_on r.left r.stored) τ q → Follows room rule σ r τ q
-follows_going room rule σ r τ q g f =
-    record {
-      kept =
-          record {
-            symbols = f.kept.symbols;
-            graphs = f.kept.graphs;
-            productions = f.kept.productions;
-            kids = f.kept.kids;
-            stay = f.kept.stay;
-            more = f.kept.more;
-            fits = f.kept.fits;
-            left = f.kept.left;
-          };
-      ran = λ limit l. f.ran limit l ∙ sym (ap (λ (x : Ran). and_then x (rule limit)) (ran_going limit σ r g));
-    }
+      pub follows_same : ((limit : ℕ) (s : State) → f limit s ≡ g limit s) → Follows room g σ r τ q
+      follows_same h = follows_here (λ limit. h limit (state_of limit σ r))
 
 -- ---- combinations and productions one after the other
 

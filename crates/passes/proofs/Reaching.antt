@@ -12,13 +12,14 @@ use Rattle.graph.specs.Trails.{no_trail}
 use Rattle.rules.specs.declared.Answer.{Answer}
 use Rattle.rules.specs.declared.Answer.TheVariants.{Noncircular}
 use Rattle.rules.specs.declared.Entry.{Entry}
-use Rattle.steps.specs.declared.Course.TheVariants.{Going, Stopped}
+use Rattle.std.specs.Prelude.{Result, Ok, Err}
 use Rattle.steps.specs.declared.Run.{Run}
-use Rattle.rules.specs.Passes.{System, State, Ran, going, stopped, and_then, no_root, pass, Outcome, outcome, after, passes_from, passes}
+use Rattle.steps.specs.declared.Stop.{Stop}
+use Rattle.rules.specs.Passes.{System, State, Ran, no_root, pass, Outcome, outcome, after, passes_from, passes}
 use Rattle.passes.specs.Slices.{Slices, room_of, Tells, entry_at, entries_to}
 use Rattle.passes.specs.Follow.{ending_of, unsaid, state_of, ran_of, Beyond, Kept, Follows, Roomy}
 use Rattle.passes.proofs.Entries.{length_entries, field_taken, kids_taken, written_over}
-use Rattle.passes.proofs.Following.{kept_same, kept_then, ran_going, ran_stopped}
+use Rattle.passes.proofs.Following.{kept_same, kept_then}
 
 -- ---- the room of the slices
 
@@ -62,55 +63,47 @@ tells o room limit σ r τ q a root begun e k h =
 
 -- `begun` passes have begun, each of which stored an entry; the passes go on from here to their outcome
 pub record Reached (W : System) (limit room : ℕ) (ps : List ℕ) (σ₀ : Slices) (r₀ : Run) (begun : ℕ) (σ : Slices) (r : Run) : Type 0 where
-  pub going : r.course ≡ Going
   pub kept : Kept room σ₀ r₀ σ r
   pub few : begun ≤ r.stored
   pub same : passes_from W limit room (suc room - begun) ps begun (state_of limit σ r) ≡ passes W limit room ps
 
 module _ (W : System) (limit room : ℕ) (ps : List ℕ) (σ₀ : Slices) (r₀ : Run) (start : r₀.left ≡ limit) where
-  pub reached_start : r₀.stored ≡ 0 → r₀.course ≡ Going → Reached W limit room ps σ₀ r₀ 0 σ₀ r₀
+  pub reached_start : r₀.stored ≡ 0 → Reached W limit room ps σ₀ r₀ 0 σ₀ r₀
   unfolding passes entries_to
-  reached_start e g =
+  reached_start e =
       let none : limit - r₀.left ≡ 0 = omega arith in
       record {
-        going = g;
         kept = kept_same room σ₀ r₀ r₀ refl (le_refl _) (omega arith);
         few = omega arith;
         same = rw (e, none, sub-zero);
       }
 
-  module _ (begun : ℕ) (σ : Slices) (r : Run) (reached : Reached W limit room ps σ₀ r₀ begun σ r) (τ : Slices) (q : Run)
-      (f : Follows room (λ limit. pass W limit room ps) σ r τ q) where
-    ran : ran_of limit τ q ≡ pass W limit room ps (state_of limit σ r)
-    ran =
-        f.ran limit (omega (arith, reached.kept.left))
-        ∙ ap (λ (x : Ran). and_then x (pass W limit room ps)) (ran_going limit σ r reached.going)
-
+  module _ (begun : ℕ) (σ : Slices) (r : Run) (reached : Reached W limit room ps σ₀ r₀ begun σ r) (τ : Slices) where
     more : State → Outcome
     more = passes_from W limit room (room - begun) ps (suc begun)
 
     -- the outcome after this pass
-    next : (x : Ran) → ran_of limit τ q ≡ x → passes W limit room ps ≡ after (state_of limit σ r) (suc begun) x more
+    next : (q : Result Run Stop) → Follows room (λ limit. pass W limit room ps) σ r τ q
+        → passes W limit room ps ≡ after (state_of limit σ r) (suc begun) (ran_of limit τ q) more
     unfolding passes_from more
-    next x h =
+    next q f =
         let e : suc room - begun ≡ suc (room - begun) = omega (arith, reached.few, reached.kept.fits) in
         sym reached.same
         ∙ ap (λ (n : ℕ). passes_from W limit room n ps begun (state_of limit σ r)) e
-        ∙ ap (λ (y : Ran). after (state_of limit σ r) (suc begun) y (passes_from W limit room (room - begun) ps (suc begun))) (sym ran ∙ h)
+        ∙ ap (λ (y : Ran). after (state_of limit σ r) (suc begun) y (passes_from W limit room (room - begun) ps (suc begun)))
+        (sym (f.ran limit (omega (arith, reached.kept.left))))
 
     -- the run has stopped
-    pub ends_stop : (a : Answer) → q.course ≡ Stopped a → passes W limit room ps ≡ outcome a q.root (state_of limit τ q) (begun + 1)
-    ends_stop a g = rw add-one (next (stopped a q.root (state_of limit τ q)) (ran_stopped limit τ q a g))
+    pub ends_stop : (q : Stop) → Follows room (λ limit. pass W limit room ps) σ r τ (Err q)
+        → passes W limit room ps ≡ outcome q.answer q.root (state_of limit τ q.run) (begun + 1)
+    ends_stop q f = rw add-one (next (Err q) f)
 
-    module _ (g : q.course ≡ Going) where
-      going_on : ran_of limit τ q ≡ going (state_of limit τ q)
-      going_on = ran_going limit τ q g
-
+    module _ (q : Run) (f : Follows room (λ limit. pass W limit room ps) σ r τ (Ok q)) where
       -- nothing was stored
       pub ends_done : q.stored ≡ r.stored → passes W limit room ps ≡ outcome Noncircular no_root (state_of limit τ q) (begun + 1)
       ends_done e =
           rw add-one
-          (next (going (state_of limit τ q)) going_on
+          (next (Ok q) f
           ∙ rw (length_entries τ q.stored, length_entries σ r.stored, eq-eqb _ _ e))
 
       -- something was
@@ -119,12 +112,11 @@ module _ (W : System) (limit room : ℕ) (ps : List ℕ) (σ₀ : Slices) (r₀ 
       reached_more ne =
           let e : suc room - (begun + 1) ≡ room - begun = omega arith in
           record {
-            going = g;
             kept = kept_then room σ₀ r₀ σ r reached.kept τ q f.kept;
             few = omega (arith, ne, f.kept.more, reached.few);
             same =
                 rw (e, add-one)
                 (sym
-                (next (going (state_of limit τ q)) going_on
+                (next (Ok q) f
                 ∙ rw (length_entries τ q.stored, length_entries σ r.stored, ne_eqb _ _ ne)));
           }

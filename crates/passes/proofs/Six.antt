@@ -1,6 +1,6 @@
 -- One combination that is tried follows the rule of the six steps. Assumes nothing.
 use mathlib.Core.Path.{◌≡◌, refl, sym, ap, ap₂, ◌∙◌}
-use mathlib.Core.Bool.{Bool, true, false, false≢true}
+use mathlib.Core.Bool.{Bool, true, false}
 use mathlib.Core.List.{List}
 use Prim.Native.Nat.{ℕ, suc, ◌+◌, ◌-◌, ◌*◌, ◌≤◌, ◌<◌}
 use native.Mathlib.Numerals.{add-one}
@@ -9,17 +9,17 @@ use lib.Dec.{leb, eqb}
 use lib.ListN.{length, get_or, take, length-take}
 use lib.Seq.{get_or-take}
 use Rattle.numbers.proofs.Decides.{same_test, le_decides, eq_decides}
-use Rattle.rules.specs.declared.Answer.{Answer}
 use Rattle.rules.specs.declared.Answer.TheVariants.{Circular}
 use Rattle.rules.specs.declared.Entry.{Entry}
-use Rattle.steps.specs.declared.Course.TheVariants.{Stopped}
+use Rattle.std.specs.Prelude.{Result}
 use Rattle.steps.specs.declared.Run.{Run}
+use Rattle.steps.specs.declared.Stop.{Stop}
 use Rattle.steps.specs.declared.Task.{Task}
 use Rattle.steps.specs.declared.Verdict.{Verdict}
 use Rattle.steps.specs.declared.Verdict.TheVariants.{Steps, Circle, Known, Full, New}
 use Rattle.graph.specs.Rows.{has_circle, root_graph}
 use Rattle.compounds.specs.Combination.{own_in, picked_graphs, closed_over, closed_in}
-use Rattle.rules.specs.Passes.{State, Ran, going, stopped, and_then, numbered, no_root, stop_if, go_on_if, counted, stored, try}
+use Rattle.rules.specs.Passes.{State, Ran, going, stopped, numbered, no_root, stop_if, go_on_if, counted, stored, try}
 use Rattle.rules.proofs.Steps.{by_tests}
 use Rattle.passes.specs.Slices.{Slices}
 use Rattle.steps.specs.Slices.{put}
@@ -28,7 +28,7 @@ use Rattle.steps.proofs.Held.{put_held}
 use Rattle.steps.proofs.Verdicts.{is_left, has_room}
 use Rattle.turns.specs.Turning.{Numbers}
 use Rattle.turns.proofs.Turning.{numbers_long}
-use Rattle.passes.specs.Follow.{state_of, ran_of, Follows, InTurn, system_by, halts, stored_at}
+use Rattle.passes.specs.Follow.{state_of, ran_of, Follows, InTurn, system_by, run_in}
 use Rattle.passes.proofs.Entries.{length_entries, seen_known, graphs_same, put_stay, put_entries, set_beyond, sets_beyond}
 use Rattle.passes.proofs.Following.{kept_same}
 
@@ -70,13 +70,16 @@ module _ (k : Task) (rights edges : List ℕ) (p : ℕ) where
   unfolding system_by
   graph_by gs = refl
 
-module _ (k : Task) (rights edges : List ℕ) (first : ℕ) (σ : Slices) (left n : ℕ) (picked : List ℕ) (ready : InTurn k rights first σ (goes_on left n))
+module _ (k : Task) (rights edges : List ℕ) (first : ℕ) (σ : Slices) (r : Run) (picked : List ℕ) (ready : InTurn k rights first σ r)
     (numbers : Numbers k.count first picked) where
   abbrev combo : List ℕ
   combo = take k.count picked
 
-  abbrev r : Run
-  r = goes_on left n
+  abbrev left : ℕ
+  left = r.left
+
+  abbrev n : ℕ
+  n = r.stored
 
   abbrev rule : ℕ → State → Ran
   rule limit = try (system_by k rights edges) limit k.room k.number combo
@@ -105,7 +108,7 @@ module _ (k : Task) (rights edges : List ℕ) (first : ℕ) (σ : Slices) (left 
   all_compared : least σ.symbols σ.graphs n ≡ n
   all_compared = omega (arith, ready.roomy.stored, ready.roomy.symbols, ready.roomy.graphs)
 
-  tried : (limit : ℕ) → left ≤ limit → and_then (ran_of limit σ r) (rule limit) ≡ acts now limit
+  tried : (limit : ℕ) → left ≤ limit → rule limit (state_of limit σ r) ≡ acts now limit
   unfolding try judged
   tried limit l =
       rw (
@@ -124,12 +127,12 @@ module _ (k : Task) (rights edges : List ℕ) (first : ℕ) (σ : Slices) (left 
       (eqb n k.room) k.number picked (state_of limit σ r) (stored new (counted (state_of limit σ r))))
 
   -- nothing is stored
-  quiet : (v : Verdict) (q : Run) → now ≡ v → q.stored ≡ n → q.left ≤ left
+  quiet : (v : Verdict) (q : Result Run Stop) → now ≡ v → (run_in q).stored ≡ n → (run_in q).left ≤ left
       → ((limit : ℕ) → left ≤ limit → ran_of limit σ q ≡ acts v limit)
       → Follows k.room rule σ r σ q
   quiet v q h e l same =
       record {
-        kept = kept_same k.room σ r q e l ready.roomy.stored;
+        kept = kept_same k.room σ r (run_in q) e l ready.roomy.stored;
         ran =
             λ limit i. same limit i
             ∙ sym (ap (λ (x : Verdict). acts x limit) h)
@@ -190,28 +193,3 @@ module _ (k : Task) (rights edges : List ℕ) (first : ℕ) (σ : Slices) (left 
 
     pub tried_left : counts v ≡ true → 1 ≤ left
     tried_left h = is_left k edges σ.symbols σ.graphs left n picked (ap counts (sym t.verdict_is) ∙ h)
-
--- ---- a verdict goes on, or it ends the passes
-
-pub halted : (v : Verdict) (p : ℕ) (picked : List ℕ) (left n : ℕ) → halts v ≡ true → (a : Answer) × ((run_at v p picked left n).course ≡ Stopped a)
-unfolding run_at
-halted Steps p picked left n h = (_, refl)
-halted Circle p picked left n h = (_, refl)
-halted Known p picked left n h = absurd (false≢true h)
-halted Full p picked left n h = (_, refl)
-halted New p picked left n h = absurd (false≢true h)
-
-pub goes_on_lem : (v : Verdict) (p : ℕ) (picked : List ℕ) (left n : ℕ) → halts v ≡ false → run_at v p picked left n ≡ goes_on (left - 1) (stored_at v n)
-unfolding run_at
-goes_on_lem Steps p picked left n h = absurd (false≢true (sym h))
-goes_on_lem Circle p picked left n h = absurd (false≢true (sym h))
-goes_on_lem Known p picked left n h = refl
-goes_on_lem Full p picked left n h = absurd (false≢true (sym h))
-goes_on_lem New p picked left n h = refl
-
-pub goes_counted : (v : Verdict) → halts v ≡ false → counts v ≡ true
-goes_counted Steps h = absurd (false≢true (sym h))
-goes_counted Circle h = refl
-goes_counted Known h = refl
-goes_counted Full h = refl
-goes_counted New h = refl

@@ -11,7 +11,9 @@ use lib.Seq.{length-take-le, get_or-take}
 use Rattle.numbers.specs.Lists.{up_from, keep}
 use Rattle.numbers.proofs.Keeping.{map_same, map_moved}
 use Rattle.rules.specs.declared.Entry.{Entry}
+use Rattle.std.specs.Prelude.{Result}
 use Rattle.steps.specs.declared.Run.{Run}
+use Rattle.steps.specs.declared.Stop.{Stop}
 use Rattle.steps.specs.declared.Task.{Task}
 use Rattle.rules.specs.Passes.{System, State, Ran, and_then, entry, graphs, candidates, combinations, try, tries, turn}
 use Rattle.rules.proofs.Stored.{Each, each_combination}
@@ -99,7 +101,7 @@ module _ (W : System) (k : Task) (rights edges : List ℕ) (agrees : Agrees W k 
       (each_combination (map (candidates es) (W.rights k.number)))
 
   -- all combinations of the entries that were stored when the turn began
-  pub turn_follows : (σ : Slices) (r : Run) (τ : Slices) (q : Run)
+  pub turn_follows : (σ : Slices) (r : Run) (τ : Slices) (q : Result Run Stop)
       → Follows k.room (over k rights edges (combos_in k rights r.stored σ.symbols)) σ r τ q
       → Follows k.room (λ limit. turn W limit k.room k.number) σ r τ q
   unfolding turn

@@ -16,12 +16,13 @@ use Rattle.grammar.specs.Valid.{Valid}
 use Rattle.grammar.proofs.Valid.{valid}
 use Rattle.graph.specs.Rows.{own, closure, has_circle, root_graph}
 use Rattle.graph.proofs.Tables.{few_rights, rows_made}
+use Rattle.std.specs.Prelude.{Result}
 use Rattle.steps.specs.declared.Run.{Run}
+use Rattle.steps.specs.declared.Stop.{Stop}
 use Rattle.steps.specs.declared.Task.{Task}
 use Rattle.rules.specs.Passes.{turn}
 use Rattle.rules.specs.Test.{system_of, system_in}
 use Rattle.grammar.proofs.Lookups.{slots_seven}
-use Rattle.steps.specs.Step.{goes_on}
 use Rattle.compounds.specs.Combination.{closed_over}
 use Rattle.passes.specs.Slices.{Slices}
 use Rattle.passes.specs.Follow.{Follows, Roomy, InTurn, system_by, over, task_of, combos_in}
@@ -59,29 +60,20 @@ module _ (bs : List ℕ) (good : refusal bs ≡ Ok tt) where
   -- a turn begins
   module _ (p room : ℕ) (σ : Slices) (r : Run) where
     pub turn_ready : Roomy room σ r → (k : Task) → k ≡ task_of p (production g p) room → (rights : List ℕ) → rights ≡ (production g p).slots
-        → InTurn k rights r.stored σ (goes_on r.left r.stored)
+        → InTurn k rights r.stored σ r
     unfolding task_of
     turn_ready h k made rights are =
         rw (made, are)
         (record {
-          roomy =
-              record {
-                symbols = h.symbols;
-                graphs = h.graphs;
-                productions = h.productions;
-                kids = h.kids;
-                stored = h.stored;
-                small = h.small;
-              };
+          roomy = h;
           first_held = le_refl r.stored;
           few = few_rights bs good p;
           slots = slots_seven bs p;
-          going = refl;
         })
 
     -- where all its combinations are followed, the turn is
     pub task_turn : (k : Task) → k ≡ task_of p (production g p) room → (rights : List ℕ) → rights ≡ (production g p).slots
-        → (edges : List ℕ) → edges ≡ run_of bs p → (τ : Slices) (q : Run)
+        → (edges : List ℕ) → edges ≡ run_of bs p → (τ : Slices) (q : Result Run Stop)
         → Follows k.room (over k rights edges (combos_in k rights r.stored σ.symbols)) σ r τ q
         → Follows room (λ limit. turn (system_in bs) limit room p) σ r τ q
     unfolding task_of

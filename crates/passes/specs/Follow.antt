@@ -1,6 +1,6 @@
 -- The passes over lent slices, where the closures that are left are counted down: what the slices and a run say in the words of the
 -- rules, and what it is to follow a rule. Assumes nothing.
-use Rattle.std.specs.Prelude.{Bool, true, false, List, map, ◌≡◌, ℕ, ◌+◌, ◌-◌, ◌*◌, ◌≤◌, length, get_or, take, drop}
+use Rattle.std.specs.Prelude.{Result, Ok, Err, List, map, ◌≡◌, ℕ, ◌-◌, ◌*◌, ◌≤◌, length, get_or, take, drop}
 use Rattle.numbers.specs.Lists.{keep}
 use Rattle.grammar.specs.declared.Production.{Production}
 use Rattle.grammar.specs.Grammar.{Grammar, production, rights, edges_of}
@@ -12,17 +12,14 @@ use Rattle.parts.specs.Sets.{Symbols}
 use Rattle.parts.specs.Rule.{takes_part}
 use Rattle.rules.specs.declared.Answer.{Answer}
 use Rattle.rules.specs.declared.Report.{Report}
-use Rattle.steps.specs.declared.Course.{Course}
-use Rattle.steps.specs.declared.Course.TheVariants.{Going, Stopped}
 use Rattle.steps.specs.declared.Run.{Run}
+use Rattle.steps.specs.declared.Stop.{Stop}
 use Rattle.steps.specs.declared.Task.{Task}
-use Rattle.steps.specs.declared.Verdict.{Verdict}
-use Rattle.steps.specs.declared.Verdict.TheVariants.{Steps, Circle, Known, Full, New}
 use Rattle.compounds.specs.Combination.{own_in, closed_over}
 use Rattle.turns.specs.Combos.{combos_of}
 use Rattle.turns.specs.Turning.{of_symbol}
 use Rattle.passes.specs.declared.Ending.{Ending}
-use Rattle.rules.specs.Passes.{System, State, Ran, going, stopped, and_then, counting, tries}
+use Rattle.rules.specs.Passes.{System, State, Ran, going, stopped, counting, tries}
 use Rattle.rules.specs.Test.{of_root, circle_in}
 use Rattle.passes.specs.Slices.{Slices, entries_to}
 
@@ -40,12 +37,14 @@ unsaid e =
 abbrev pub state_of : ℕ → Slices → Run → State
 state_of limit σ r = record { entries = entries_to σ r.stored; made = limit - r.left }
 
-abbrev pub ran_by : Course → List ℕ → State → Ran
-ran_by Going root s = going s
-ran_by (Stopped a) root s = stopped a root s
+abbrev pub ran_of : ℕ → Slices → Result Run Stop → Ran
+ran_of limit σ (Ok r) = going (state_of limit σ r)
+ran_of limit σ (Err s) = stopped s.answer s.root (state_of limit σ s.run)
 
-abbrev pub ran_of : ℕ → Slices → Run → Ran
-ran_of limit σ r = ran_by r.course r.root (state_of limit σ r)
+-- where a run stands that goes on or has stopped
+abbrev pub run_in : Result Run Stop → Run
+run_in (Ok r) = r
+run_in (Err s) = s.run
 
 -- ---- what it is to follow a rule
 
@@ -65,11 +64,11 @@ pub record Kept (room : ℕ) (σ : Slices) (r : Run) (τ : Slices) (q : Run) : T
   pub fits : q.stored ≤ room
   pub left : q.left ≤ r.left
 
--- From σ and r to τ and q the slices and the run follow a rule. This is the one law between the rules, which count closures up to a
+-- From σ and r to τ and q the slices and a run that goes on follow a rule. This is the one law between the rules, which count closures up to a
 -- limit, and the code, which counts those that are left: it holds for each limit that leaves as many.
-pub record Follows (room : ℕ) (rule : ℕ → State → Ran) (σ : Slices) (r : Run) (τ : Slices) (q : Run) : Type 0 where
-  pub kept : Kept room σ r τ q
-  pub ran : (limit : ℕ) → r.left ≤ limit → ran_of limit τ q ≡ and_then (ran_of limit σ r) (rule limit)
+pub record Follows (room : ℕ) (rule : ℕ → State → Ran) (σ : Slices) (r : Run) (τ : Slices) (q : Result Run Stop) : Type 0 where
+  pub kept : Kept room σ r τ (run_in q)
+  pub ran : (limit : ℕ) → r.left ≤ limit → ran_of limit τ q ≡ rule limit (state_of limit σ r)
 
 -- the room holds what is stored
 pub record Roomy (room : ℕ) (σ : Slices) (r : Run) : Type 0 where
@@ -123,20 +122,3 @@ pub record InTurn (k : Task) (rights : List ℕ) (first : ℕ) (σ : Slices) (r 
   pub first_held : first ≤ r.stored
   pub few : k.count ≤ 7
   pub slots : length rights ≡ 7
-  pub going : r.course ≡ Going
-
--- ---- what a verdict leads to
-
-abbrev pub halts : Verdict → Bool
-halts Steps = true
-halts Circle = true
-halts Known = false
-halts Full = true
-halts New = false
-
-abbrev pub stored_at : Verdict → ℕ → ℕ
-stored_at Steps stored = stored
-stored_at Circle stored = stored
-stored_at Known stored = stored
-stored_at Full stored = stored
-stored_at New stored = stored + 1

@@ -11,15 +11,15 @@ ghost use Rattle.rules.specs.Passes as stated;
 ghost use Rattle.rules.specs.Test.{system_in, report_with};
 ghost use Rattle.passes.specs.Slices.{room_of, Tells, Tested};
 ghost use Rattle.steps.specs.Lent.{held, Lent};
-ghost use Rattle.steps.specs.Step.{goes_on, counts, run_at};
+ghost use Rattle.steps.specs.Step.{counts, run_at};
 ghost use Rattle.turns.specs.Turning.{of_symbol, Numbers, Firsts};
-ghost use Rattle.passes.specs.Follow.{ending_of, unsaid, Follows, Roomy, InTurn, over, task_of, combos_in, halts, stored_at, parts_among, circle_over};
+ghost use Rattle.passes.specs.Follow.{ending_of, unsaid, Follows, Roomy, InTurn, over, task_of, combos_in, parts_among, circle_over};
 
 use grammar::{NODES, Production, SLOTS};
 use graph::Trail;
 use parts::WORDS;
 use rules::{Answer, Report};
-use steps::{Course, Run, Store, Task, Verdict};
+use steps::{Run, Stop, Store, Task, Verdict};
 
 // How the passes have ended: of a report all but the circle.
 #[derive(Clone, Copy)]
@@ -31,39 +31,13 @@ pub struct Ending {
     pub passes: u16,
 }
 
-// Whether a verdict ends the passes.
-fn stops(verdict: Verdict) -> bool
-    ensures { result ≡ halts verdict }
-{
-    match verdict {
-        Verdict::Steps => true,
-        Verdict::Circle => true,
-        Verdict::Known => false,
-        Verdict::Full => true,
-        Verdict::New => false,
-    }
-}
-
-// How many entries are stored after a verdict.
-fn stored_after(verdict: Verdict, stored: usize) -> usize
-    requires { stored ≤ 4096 }
-    ensures { result ≡ stored_at verdict stored }
-{
-    match verdict {
-        Verdict::Steps => stored,
-        Verdict::Circle => stored,
-        Verdict::Known => stored,
-        Verdict::Full => stored,
-        Verdict::New => stored + 1,
-    }
-}
-
-// The run after a verdict, where `left` closures were left before.
+// The run after a verdict.
 #[tactic(auto, unfolding(steps::specs::Step::run_at))]
-fn run_after(verdict: Verdict, number: u16, picked: [u16; SLOTS], left: u32, stored: usize) -> Run
-    requires { (counts verdict ≡ true → 1 ≤ left) × (stored ≤ 4096) }
-    ensures { result ≡ run_at verdict number picked left stored }
+fn run_after(verdict: Verdict, number: u16, picked: [u16; SLOTS], run: Run) -> Result<Run, Stop>
+    requires { (counts verdict ≡ true → 1 ≤ run.left) × (run.stored ≤ 4096) }
+    ensures { result ≡ run_at verdict number picked run.left run.stored }
 {
+    let Run { left, stored } = run;
     match verdict {
         Verdict::Steps => steps::stopped(Answer::OutOfSteps, [0u16; SLOTS], left, stored),
         Verdict::Circle => steps::stopped(Answer::Circular(number), picked, left - 1, stored),
@@ -73,44 +47,39 @@ fn run_after(verdict: Verdict, number: u16, picked: [u16; SLOTS], left: u32, sto
     }
 }
 
-// The combinations of a turn that began with `first` entries, from the first of them on.
+// The combinations of a turn that begins with this run, from the first of them on.
 fn combine(
     store: &mut Store<'_>,
     edges: &[u8],
     task: Task,
     rights: &[u16; SLOTS],
     firsts: &[u16; SLOTS],
-    left: u32,
-    first: usize,
-) -> Run
-    requires { InTurn task rights.now first (held store.old) (goes_on left first)
-        × Numbers task.count first firsts.now × Firsts (of_symbol store.old.symbols.now rights.now) first task.count firsts.now }
+    run: Run,
+) -> Result<Run, Stop>
+    requires { InTurn task rights.now run.stored (held store.old) run
+        × Numbers task.count run.stored firsts.now × Firsts (of_symbol store.old.symbols.now rights.now) run.stored task.count firsts.now }
     ensures follows { Follows task.room
-        (over task rights.now edges.now (combos_in task rights.now first store.old.symbols.now))
-        (held store.old) (goes_on left first)
+        (over task rights.now edges.now (combos_in task rights.now run.stored store.old.symbols.now))
+        (held store.old) run
         (held store.new) result }
     ensures lent { Lent store.old store.new }
 {
-    let mut spare = left;
-    let mut stored = first;
+    let first = run.stored as u16;
+    let mut now = run;
     let mut picked = *firsts;
     loop {
-        let verdict = steps::try_one(store, edges, task, &picked, spare, stored);
-        if stops(verdict) {
-            return run_after(verdict, task.number, picked, spare, stored);
-        }
-        spare -= 1;
-        stored = stored_after(verdict, stored);
+        let verdict = steps::try_one(store, edges, task, &picked, now);
+        now = run_after(verdict, task.number, picked, now)?;
         let more = turns::next_combination(
             store.entries().symbols,
             rights,
             firsts,
             task.count,
-            first as u16,
+            first,
             &mut picked,
         );
         if !more {
-            return steps::going_on(spare, stored);
+            return Ok(now);
         }
     }
 }
@@ -138,8 +107,8 @@ fn turn(
     store: &mut Store<'_>,
     room: usize,
     run: Run,
-) -> Run
-    requires { (refusal table.now ≡ Ok tt) × (number < P table.now) × Roomy room (held store.old) run × (run.course ≡ Course.Going) }
+) -> Result<Run, Stop>
+    requires { (refusal table.now ≡ Ok tt) × (number < P table.now) × Roomy room (held store.old) run }
     ensures follows { Follows room (λ limit. stated.pass (system_in table.now) limit room
         (parts_among treed.now reached.now (grammar_of table.now) (number ∷ [])))
         (held store.old) run
@@ -149,23 +118,17 @@ fn turn(
     let production = tables::production_of(table, number);
     let rights = production.slots;
     let count = numbers::wide(production.n);
-    let first = run.stored;
+    let first = run.stored as u16;
     let mut firsts = [0u16; SLOTS];
-    if !turns::first_candidates(
-        store.entries().symbols,
-        &rights,
-        count,
-        first as u16,
-        &mut firsts,
-    ) {
-        return run;
+    if !turns::first_candidates(store.entries().symbols, &rights, count, first, &mut firsts) {
+        return Ok(run);
     }
     if !walks::takes_part(production, treed, reached) {
-        return run;
+        return Ok(run);
     }
     let edges = tables::run_of(table, number);
     let task = task_of(number, production, room);
-    combine(store, edges, task, &rights, &firsts, run.left, first)
+    combine(store, edges, task, &rights, &firsts, run)
 }
 
 // One pass: the productions that take part, by number.
@@ -177,7 +140,7 @@ fn pass(
     store: &mut Store<'_>,
     room: usize,
     run: Run,
-) -> Run
+) -> Result<Run, Stop>
     requires { (refusal table.now ≡ Ok tt) × (count ≡ P table.now) × Roomy room (held store.old) run }
     ensures follows { Follows room (λ limit. stated.pass (system_in table.now) limit room
         (parts_among treed.now reached.now (grammar_of table.now) (up_from 0 count)))
@@ -187,20 +150,17 @@ fn pass(
 {
     let mut now = run;
     for number in 0..count {
-        let course = now.course;
-        if let Course::Stopped(_) = course {
-            return now;
-        }
-        now = turn(table, number, treed, reached, store, room, now);
+        now = turn(table, number, treed, reached, store, room, now)?;
     }
-    now
+    Ok(now)
 }
 
 // The end after `begun` passes: the closures that are not left have been made.
-fn ended(answer: Answer, root: [u16; SLOTS], limit: u32, run: Run, begun: u16) -> Ending
-    requires { (run.left ≤ limit) × (run.stored ≤ 4096) }
-    ensures { result ≡ ending_of answer root limit run begun }
+fn ended(stop: Stop, limit: u32, begun: u16) -> Ending
+    requires { (stop.run.left ≤ limit) × (stop.run.stored ≤ 4096) }
+    ensures { result ≡ ending_of stop.answer stop.root limit stop.run begun }
 {
+    let Stop { answer, root, run } = stop;
     Ending {
         answer,
         root,
@@ -226,19 +186,25 @@ fn passes(
         (held store.old) (unsaid result) (held store.new) }
     ensures lent { Lent store.old store.new }
 {
-    let mut now = steps::going_on(limit, 0);
+    let mut now = Run {
+        left: limit,
+        stored: 0,
+    };
     let mut begun: u16 = 0;
     loop {
         let before = now.stored;
         begun += 1;
-        now = pass(table, count, treed, reached, store, room, now);
-        let course = now.course;
-        if let Course::Stopped(answer) = course {
-            let root = now.root;
-            return ended(answer, root, limit, now, begun);
-        }
+        now = match pass(table, count, treed, reached, store, room, now) {
+            Ok(now) => now,
+            Err(stop) => return ended(stop, limit, begun),
+        };
         if now.stored == before {
-            return ended(Answer::Noncircular, [0u16; SLOTS], limit, now, begun);
+            let done = Stop {
+                answer: Answer::Noncircular,
+                root: [0u16; SLOTS],
+                run: now,
+            };
+            return ended(done, limit, begun);
         }
     }
 }

@@ -8,8 +8,8 @@ use Rattle.rules.specs.declared.Answer.{Answer}
 use Rattle.rules.specs.declared.Answer.TheVariants.{Circular, OutOfSteps, OutOfRoom}
 use Rattle.rules.specs.declared.Entry.{Entry}
 use Rattle.rules.specs.Passes.{no_root}
-use Rattle.steps.specs.declared.Course.TheVariants.{Going, Stopped}
 use Rattle.steps.specs.declared.Run.{Run}
+use Rattle.steps.specs.declared.Stop.{Stop}
 use Rattle.steps.specs.declared.Task.{Task}
 use Rattle.steps.specs.declared.Verdict.{Verdict}
 use Rattle.steps.specs.declared.Verdict.TheVariants.{Steps, Circle, Known, Full, New}
@@ -17,11 +17,11 @@ use Rattle.steps.specs.Slices.{Slices, put_in}
 
 -- ---- a run that goes on, and one that has stopped
 
-abbrev pub goes_on : ℕ → ℕ → Run
-goes_on left stored = record { course = Going; root = no_root; left = left; stored = stored }
+abbrev pub goes_on : ℕ → ℕ → Result Run Stop
+goes_on left stored = Ok (record { left = left; stored = stored })
 
-abbrev pub stops : Answer → List ℕ → ℕ → ℕ → Run
-stops a root left stored = record { course = Stopped a; root = root; left = left; stored = stored }
+abbrev pub stops : Answer → List ℕ → ℕ → ℕ → Result Run Stop
+stops a root left stored = Err (record { answer = a; root = root; run = record { left = left; stored = stored } })
 
 -- ---- the tests
 
@@ -77,7 +77,7 @@ stores Known = false
 stores Full = false
 stores New = true
 
-unfoldable pub run_at : Verdict → ℕ → List ℕ → ℕ → ℕ → Run
+unfoldable pub run_at : Verdict → ℕ → List ℕ → ℕ → ℕ → Result Run Stop
 run_at Steps number picked left stored = stops OutOfSteps no_root left stored
 run_at Circle number picked left stored = stops (Circular number) picked (left - 1) stored
 run_at Known number picked left stored = goes_on (left - 1) stored

@@ -107,21 +107,19 @@ impl Entries<'_> {
     }
 }
 
-// Whether the passes go on, or with what answer they have stopped.
-#[derive(Clone, Copy)]
-pub enum Course {
-    Going,
-    Stopped(Answer),
-}
-
-// Where the passes stand: the closures that are left and how many entries are stored. An enum holds no array, so the root stands beside
-// the course: it is that of a circular answer, and 0 elsewhere.
+// Where the passes stand: the closures that are left and how many entries are stored.
 #[derive(Clone, Copy)]
 pub struct Run {
-    pub course: Course,
-    pub root: [u16; SLOTS],
     pub left: u32,
     pub stored: usize,
+}
+
+// How a run has stopped, and where. The root is that of a circular answer, and 0 elsewhere.
+#[derive(Clone, Copy)]
+pub struct Stop {
+    pub answer: Answer,
+    pub root: [u16; SLOTS],
+    pub run: Run,
 }
 
 // What the tries of a turn have in common: the number of its production, the left symbol, how many right symbols there are, and the room.
@@ -203,46 +201,44 @@ fn judge(
 }
 
 // A run that goes on, with so many closures left and so many entries stored.
-pub fn going_on(left: u32, stored: usize) -> Run
+pub fn going_on(left: u32, stored: usize) -> Result<Run, Stop>
     ensures { result ≡ goes_on left stored }
 {
-    Run {
-        course: Course::Going,
-        root: [0u16; SLOTS],
-        left,
-        stored,
-    }
+    Ok(Run { left, stored })
 }
 
 // A run that has stopped.
-pub fn stopped(answer: Answer, root: [u16; SLOTS], left: u32, stored: usize) -> Run
+pub fn stopped(
+    answer: Answer,
+    root: [u16; SLOTS],
+    left: u32,
+    stored: usize,
+) -> Result<Run, Stop>
     ensures { result ≡ stops answer root left stored }
 {
-    Run {
-        course: Course::Stopped(answer),
+    Err(Stop {
+        answer,
         root,
-        left,
-        stored,
-    }
+        run: Run { left, stored },
+    })
 }
 
-// The six steps for one combination of the first `stored` entries, where `left` closures are left.
+// The six steps for one combination of the stored entries.
 pub fn try_one(
     store: &mut Store<'_>,
     edges: &[u8],
     task: Task,
     picked: &[u16; SLOTS],
-    left: u32,
-    stored: usize,
+    run: Run,
 ) -> Verdict
-    ensures tried { Tried task edges.now picked.now left stored (held store.old) result (held store.new) }
+    ensures tried { Tried task edges.now picked.now run.left run.stored (held store.old) result (held store.new) }
     ensures lent { Lent store.old store.new }
 {
-    match judge(store.entries(), edges, task, picked, left, stored) {
+    match judge(store.entries(), edges, task, picked, run.left, run.stored) {
         Err(verdict) => verdict,
         Ok(graph) => {
             store.put(
-                stored,
+                run.stored,
                 Entry {
                     symbol: task.symbol,
                     graph,

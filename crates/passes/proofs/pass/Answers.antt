@@ -1,8 +1,10 @@
 -- `passes::pass` meets its contract. The invariant: the turns of the productions passed are followed. Assumes nothing.
-use mathlib.Core.Path.{◌≡◌, subst}
+use mathlib.Core.Path.{◌≡◌, sym, subst}
 use Prim.Native.Nat.{ℕ}
 use borrow.Author.Rules.{rules}
 use native.Mathlib.Omega.{arith}
+use Rattle.std.proofs.lemmas.Result.{err_from_is_err_and}
+use Rattle.std.specs.Prelude.{Ok}
 use Rattle.numbers.specs.Lists.{up_from}
 use Rattle.grammar.specs.Grammar.{production}
 use Rattle.grammar.specs.Table.{grammar_of}
@@ -12,25 +14,27 @@ use Rattle.passes.specs.Follow.{Follows}
 use Rattle.steps.specs.Lent.{held}
 use Rattle.steps.proofs.Lending.{lent_same, lent_then}
 use Rattle.passes.proofs.Following.{kept_roomy}
-use Rattle.passes.proofs.Passing.{through, pass_start, pass_more, pass_stop}
+use Rattle.passes.proofs.Passing.{through, pass_start, pass_more, pass_stopped}
 use Rattle.passes.proofs.pass.Goals as goal
 
 pub loop-number-init : goal.loop-number-init
 loop-number-init c =
     (search rules, pass_start (system_in c.args.table.now) c.args.room _ _ c.args.run c.requires.2.stored, lent_same _)
 
-pub returns-in-Stopped-clause-follows : goal.returns-in-Stopped-clause-follows
-returns-in-Stopped-clause-follows c =
+pub turn-requires : goal.turn-requires
+turn-requires c =
     let a = c.args in
     let l = c.loop-number in
-    pass_stop (system_in a.table.now) a.room (λ p. takes_part a.treed.now a.reached.now (production (grammar_of a.table.now) p)) _ a.run _
-    l.now l.number l.invariant.1 a.count l.invariant.0 _ c.in-Stopped.is
+    (c.requires.0, omega arith, kept_roomy a.room _ a.run _ l.now l.invariant.1.kept c.requires.2)
 
-pub turn-now-requires : goal.turn-now-requires
-turn-now-requires c =
+pub returns-in_err-now-clause-follows : goal.returns-in_err-now-clause-follows
+returns-in_err-now-clause-follows c =
     let a = c.args in
     let l = c.loop-number in
-    (c.requires.0, omega arith, kept_roomy a.room _ a.run _ l.now l.invariant.1.kept c.requires.2, c.in_default.is)
+    let w = err_from_is_err_and c.from_residual.result c.from_residual.ensures.1 in
+    rw (w.1, w.2)
+    (pass_stopped (system_in a.table.now) a.room (λ p. takes_part a.treed.now a.reached.now (production (grammar_of a.table.now) p)) _ a.run _
+    l.now l.number l.invariant.1 a.count c.loop-number-test.true _ _ (rw (sym c.in_err-now.was) c.turn.ensures.follows))
 
 pub loop-number-preserved : goal.loop-number-preserved
 loop-number-preserved c =
@@ -38,8 +42,8 @@ loop-number-preserved c =
     let l = c.loop-number in (
       omega arith,
       pass_more (system_in a.table.now) a.room (λ p. takes_part a.treed.now a.reached.now (production (grammar_of a.table.now) p)) _ a.run _
-          l.now l.number l.invariant.1 _ _ c.turn-now.ensures.follows,
-      lent_then l.invariant.2 c.turn-now.ensures.lent,
+          l.now l.number l.invariant.1 _ _ (rw (sym c.in_ok-now.was) c.turn.ensures.follows),
+      lent_then l.invariant.2 c.turn.ensures.lent,
     )
 
 pub returns-clause-follows : goal.returns-clause-follows
@@ -50,5 +54,5 @@ returns-clause-follows c =
     subst
     (λ (n : ℕ). Follows a.room
     (through (system_in a.table.now) a.room (λ p. takes_part a.treed.now a.reached.now (production (grammar_of a.table.now) p)) (up_from 0 n))
-    (held a.store.now) a.run (held l.store) l.now) e
+    (held a.store.now) a.run (held l.store) (Ok l.now)) e
     l.invariant.1

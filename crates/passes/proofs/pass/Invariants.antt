@@ -1,5 +1,6 @@
 -- `passes::pass` meets its contract. The invariant: the turns of the productions passed are followed. Assumes nothing.
 use Prim.Native.Nat.{◌≤◌, ◌-◌}
+use Rattle.std.specs.Prelude.{Ok}
 use Rattle.numbers.specs.Lists.{up_from}
 use Rattle.grammar.specs.Grammar.{production}
 use Rattle.grammar.specs.Table.{grammar_of}
@@ -14,7 +15,7 @@ abbrev pub invariant-loop-number : goal.invariant-loop-number
 invariant-loop-number l =
     (l.number ≤ l.count)
     × Follows l.room (through (system_in l.table) l.room (λ p. takes_part l.treed l.reached (production (grammar_of l.table) p)) (up_from 0 l.number)) (held l.initial.store) l.initial.now
-    (held l.store) l.now
+    (held l.store) (Ok l.now)
     × Lent l.initial.store l.store
 
 abbrev pub decreases-loop-number : goal.decreases-loop-number

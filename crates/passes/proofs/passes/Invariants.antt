@@ -9,12 +9,12 @@ use Rattle.steps.specs.Lent.{held, Lent}
 use Rattle.passes.proofs.Reaching.{Reached}
 use Rattle.passes.proofs.passes.Given as goal
 
-abbrev pub invariant-loop-answer : goal.invariant-loop-answer
-invariant-loop-answer l =
+abbrev pub invariant-loop-now : goal.invariant-loop-now
+invariant-loop-now l =
     Reached (system_in l.table) l.limit l.room (parts_among l.treed l.reached (grammar_of l.table) (up_from 0 l.count)) (held l.initial.store) l.initial.now l.begun
     (held l.store) l.now
     × Lent l.initial.store l.store
 
-abbrev pub decreases-loop-answer : goal.decreases-loop-answer
-decreases-loop-answer l =
+abbrev pub decreases-loop-now : goal.decreases-loop-now
+decreases-loop-now l =
     l.room - l.now.stored

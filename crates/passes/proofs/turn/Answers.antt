@@ -13,6 +13,7 @@ use Rattle.grammar.specs.Reading.{run_of}
 use Rattle.grammar.specs.Refusal.{refusal}
 use Rattle.graph.proofs.Tables.{few_rights}
 use Rattle.parts.specs.Rule.{takes_part}
+use Rattle.std.specs.Prelude.{Ok}
 use Rattle.steps.specs.declared.Run.{Run}
 use Rattle.steps.specs.declared.Task.{Task}
 use Rattle.rules.specs.Passes.{turn}
@@ -22,7 +23,6 @@ use Rattle.turns.specs.Turning.{of_symbol, Numbers, Firsts, Begins}
 use Rattle.turns.proofs.Turning.{begins}
 use Rattle.passes.specs.Slices.{Slices}
 use Rattle.passes.specs.Follow.{Follows, Roomy, task_of}
-use Rattle.passes.proofs.Following.{follows_going}
 use Rattle.passes.proofs.Combining.{over_none}
 use Rattle.passes.proofs.Passing.{part_turn, part_skip, part_still}
 use Rattle.passes.proofs.Tables.{few_productions, turn_ready, task_turn}
@@ -58,10 +58,10 @@ module _ (bs : List ℕ) (good : refusal bs ≡ Ok tt) (p room : ℕ) (σ : Slic
     looked = subst (λ (xs : List ℕ). Found (firsts_to xs found.slots run.stored n (replicate 7 0)) more firsts) same found_in
 
     -- there is none
-    nothing : more ≡ false → Follows room (λ limit. turn (system_in bs) limit room p) σ run σ run
+    nothing : more ≡ false → Follows room (λ limit. turn (system_in bs) limit room p) σ run σ (Ok run)
     unfolding task_of
     nothing h =
-        task_turn bs good p room σ run (task_of p found room) made found.slots slots_are (run_of bs p) refl σ run
+        task_turn bs good p room σ run (task_of p found room) made found.slots slots_are (run_of bs p) refl σ (Ok run)
         (over_none (task_of p found room) found.slots (run_of bs p) σ run _ ((begun all).none (sym looked.more_is ∙ h)) roomy.stored)
 
     -- the turn has its task
@@ -137,4 +137,4 @@ returns-clause-follows c =
     (task_turn a.table.now c.requires.0 a.number a.room _ a.run k.result
     (k.ensures ∙ made a.table.now c.requires.0 a.number a.room _ a.run c.requires.2 p.result p.ensures) p.result.slots
     (slots_are a.table.now c.requires.0 a.number a.room _ a.run c.requires.2 p.result p.ensures) _ c.run_of-edges.ensures _ _
-    (follows_going k.result.room _ _ a.run _ _ c.requires.3 c.combine.ensures.follows))
+    c.combine.ensures.follows)

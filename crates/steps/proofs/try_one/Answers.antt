@@ -11,22 +11,22 @@ use Rattle.steps.proofs.try_one.Goals as goal
 pub returns-in-Err-clause-tried : goal.returns-in-Err-clause-tried
 returns-in-Err-clause-tried c =
     let a = c.args in
-    let j : Judges a.task a.edges.now (held a.store.now) a.left a.stored a.picked.now c.judge.result =
-    subst (λ (τ : Slices). Judges a.task a.edges.now τ a.left a.stored a.picked.now c.judge.result) c.entries.ensures c.judge.ensures in
+    let j : Judges a.task a.edges.now (held a.store.now) a.run.left a.run.stored a.picked.now c.judge.result =
+    subst (λ (τ : Slices). Judges a.task a.edges.now τ a.run.left a.run.stored a.picked.now c.judge.result) c.entries.ensures c.judge.ensures in
     let g = verdict_given _ (sym c.in-Err.is ∙ j) in
-    record { verdict_is = g.0; slices = slices_same a.task _ a.picked.now a.stored _ _ (ap stores g.0 ∙ g.1) }
+    record { verdict_is = g.0; slices = slices_same a.task _ a.picked.now a.run.stored _ _ (ap stores g.0 ∙ g.1) }
 
 pub returns-in-Ok-clause-tried : goal.returns-in-Ok-clause-tried
 returns-in-Ok-clause-tried c =
     let a = c.args in
     let σ = held a.store.now in
-    let j : Judges a.task a.edges.now σ a.left a.stored a.picked.now c.judge.result =
-    subst (λ (τ : Slices). Judges a.task a.edges.now τ a.left a.stored a.picked.now c.judge.result) c.entries.ensures c.judge.ensures in
+    let j : Judges a.task a.edges.now σ a.run.left a.run.stored a.picked.now c.judge.result =
+    subst (λ (τ : Slices). Judges a.task a.edges.now τ a.run.left a.run.stored a.picked.now c.judge.result) c.entries.ensures c.judge.ensures in
     let g = graph_given _ (sym c.in-Ok.is ∙ j) in
     record {
       verdict_is = g.0;
       slices =
           c.put.ensures.put
-          ∙ ap (λ (g : ℕ). put_in σ a.stored (entry_of a.task g a.picked.now)) g.1
-          ∙ slices_new a.task _ a.picked.now a.stored σ New refl;
+          ∙ ap (λ (g : ℕ). put_in σ a.run.stored (entry_of a.task g a.picked.now)) g.1
+          ∙ slices_new a.task _ a.picked.now a.run.stored σ New refl;
     }
