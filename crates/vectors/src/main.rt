@@ -5,13 +5,14 @@
 // (4 bytes), its room (2 bytes) and whether entry lines are printed (1 byte).
 #![tactic(auto)]
 
-ghost use Rattle.std.specs.Prelude.{◌≡◌, ◌*◌, ◌≤◌, length};
+ghost use Rattle.std.specs.Prelude.{◌≡◌, length};
 
 use grammar::SLOTS;
 use lines::LINE_BYTES;
 use print::OTHER_LINES;
 use rules::{Answer, MOST_ENTRIES, Report};
-use std::io::{Read, Write};
+use std::io;
+use std::io::{ErrorKind, Read, Write};
 use steps::Entries;
 
 // Any table, good or bad, that a case has.
@@ -24,64 +25,33 @@ const TEXT_BYTES: usize = LINE_BYTES * (MOST_ENTRIES + OTHER_LINES);
 
 const SHORT_BYTES: usize = LINE_BYTES * OTHER_LINES;
 
-// Whether the input had enough for the whole buffer.
-fn fill<R: Read>(input: &mut R, buf: &mut [u8]) -> bool {
-    input.read_exact(buf).is_ok()
-}
-
-// Each buffer is made by a function: a proof then goes by its length, and does not write out what it holds.
-fn table_buffer() -> [u8; TABLE_BYTES]
-    ensures { 65535 ≡ length result }
-{
-    [0; TABLE_BYTES]
-}
-
+// A function by itself: where an array of so many bytes is made, the checker writes out what it holds, and runs out of stack.
 fn text_buffer() -> [u8; TEXT_BYTES]
     ensures { 525184 ≡ length result }
 {
     [0; TEXT_BYTES]
 }
 
-fn zero_numbers() -> [u16; MOST_ENTRIES]
-    ensures { 4096 ≡ length result }
-{
-    [0; MOST_ENTRIES]
-}
-
-fn zero_graphs() -> [u64; MOST_ENTRIES]
-    ensures { 4096 ≡ length result }
-{
-    [0; MOST_ENTRIES]
-}
-
-fn zero_kids() -> [u16; KIDS]
-    ensures { 28672 ≡ length result }
-{
-    [0; KIDS]
-}
-
-// The count is that of a text in the buffer, so the test never fails.
+// The count is that of a text in the buffer, so it is always there.
 fn print_first<W: Write>(output: &mut W, text: &[u8], count: usize) {
-    if count <= text.len() {
-        let _ = output.write_all(&text[..count]);
+    if let Some(first) = text.get(..count) {
+        let _ = output.write_all(first);
     }
 }
 
 // The root's line, and its circle's.
 fn root_lines(text: &mut [u8], at: usize, table: &[u8], report: Report) -> usize {
-    let answer = report.answer;
-    let Answer::Circular(p) = answer else {
+    let Answer::Circular(p) = report.answer else {
         return at;
     };
-    let production = tables::production_of(table, numbers::wide(p));
-    let root = report.root;
-    let end = lines::put_root(text, at, p, root, numbers::wide(production.n));
+    let production = tables::production_of(table, usize::from(p));
+    let end = lines::put_root(text, at, p, report.root, usize::from(production.n));
     print::put_circle(text, end, report.circle)
 }
 
 // The first line, and those that follow the entries.
 fn print_short<W: Write>(output: &mut W, table: &[u8], report: Report) {
-    let mut text = [0u8; SHORT_BYTES];
+    let mut text = [0; SHORT_BYTES];
     let at = lines::put_first(&mut text, 0, report);
     let end = root_lines(&mut text, at, table, report);
     print_first(output, &text, end);
@@ -93,49 +63,22 @@ fn print_whole<W: Write>(output: &mut W, table: &[u8], report: Report, entries: 
     print_first(output, &text, count);
 }
 
-// The test with so much room.
-fn tested(
-    table: &[u8],
-    limit: u32,
-    room: usize,
-    symbols: &mut [u16],
-    graphs: &mut [u64],
-    productions: &mut [u16],
-    kids: &mut [u16],
-) -> Report
-    requires { (room ≤ length symbols.old) × (room ≤ length graphs.old) × (room ≤ length productions.old)
-        × (7 * room ≤ length kids.old) }
-{
-    passes::test(
+fn one_run<R: Read, W: Write>(input: &mut R, output: &mut W, table: &[u8]) -> io::Result<()> {
+    let mut asked = [0; 7];
+    input.read_exact(&mut asked)?;
+    let limit = numbers::four_at(&asked, 0);
+    let room = usize::from(numbers::two_at(&asked, 4)).min(MOST_ENTRIES);
+    let mut symbols = [0; MOST_ENTRIES];
+    let mut graphs = [0; MOST_ENTRIES];
+    let mut productions = [0; MOST_ENTRIES];
+    let mut kids = [0; KIDS];
+    let report = passes::test(
         table,
         limit,
         &mut symbols[..room],
         &mut graphs[..room],
         &mut productions[..room],
         &mut kids[..SLOTS * room],
-    )
-}
-
-fn one_run<R: Read, W: Write>(input: &mut R, output: &mut W, table: &[u8]) -> bool {
-    let mut asked = [0u8; 7];
-    if !fill(input, &mut asked) {
-        return false;
-    }
-    let limit = numbers::four_at(&asked, 0);
-    let room = numbers::smaller(numbers::wide(numbers::two_at(&asked, 4)), MOST_ENTRIES);
-    let whole = numbers::byte_at(&asked, 6) == 1;
-    let mut symbols = zero_numbers();
-    let mut graphs = zero_graphs();
-    let mut productions = zero_numbers();
-    let mut kids = zero_kids();
-    let report = tested(
-        table,
-        limit,
-        room,
-        &mut symbols,
-        &mut graphs,
-        &mut productions,
-        &mut kids,
     );
     if !agreement::agrees(
         table,
@@ -149,7 +92,7 @@ fn one_run<R: Read, W: Write>(input: &mut R, output: &mut W, table: &[u8]) -> bo
     ) {
         let _ = output.write_all(b"the row of records differs\n");
     }
-    if whole {
+    if asked[6] == 1 {
         let entries = Entries {
             symbols: &symbols,
             graphs: &graphs,
@@ -160,43 +103,36 @@ fn one_run<R: Read, W: Write>(input: &mut R, output: &mut W, table: &[u8]) -> bo
     } else {
         print_short(output, table, report);
     }
-    true
+    Ok(())
 }
 
-fn runs<R: Read, W: Write>(input: &mut R, output: &mut W, table: &[u8]) -> bool {
-    let mut count = [0u8; 1];
-    if !fill(input, &mut count) {
-        return false;
+fn runs<R: Read, W: Write>(input: &mut R, output: &mut W, table: &[u8]) -> io::Result<()> {
+    let mut count = [0; 1];
+    input.read_exact(&mut count)?;
+    for _ in 0..count[0] {
+        one_run(input, output, table)?;
     }
-    for _ in 0..numbers::byte_at(&count, 0) {
-        if !one_run(input, output, table) {
-            return false;
-        }
-    }
-    true
+    Ok(())
 }
 
-fn one_case<R: Read, W: Write>(input: &mut R, output: &mut W) -> bool {
-    let mut length = [0u8; 4];
-    if !fill(input, &mut length) {
-        return false;
-    }
+fn one_case<R: Read, W: Write>(input: &mut R, output: &mut W) -> io::Result<()> {
+    let mut length = [0; 4];
+    input.read_exact(&mut length)?;
     let n = numbers::four_at(&length, 0) as usize;
-    let mut table = table_buffer();
+    let mut table = [0; TABLE_BYTES];
     if table.len() < n {
-        return false;
+        return Err(io::Error::from(ErrorKind::InvalidData));
     }
-    if !fill(input, &mut table[..n]) {
-        return false;
-    }
+    input.read_exact(&mut table[..n])?;
     runs(input, output, &table[..n])
 }
 
+// The corpus ends with the input.
 fn main(rt: HostRuntime) {
     let mut input = rt.stdin();
     let mut output = rt.stdout();
-    for _ in 0..100000usize {
-        if !one_case(&mut input, &mut output) {
+    for _ in 0..100000 {
+        if one_case(&mut input, &mut output).is_err() {
             return;
         }
     }
