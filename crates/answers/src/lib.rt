@@ -12,13 +12,6 @@ pub fn test_text(buf: &mut [u8], table: &[u8], limit: u32, store: &mut Store<'_>
     ensures printed { TestPrinted table.now limit (held store.old) (held store.new) buf.old buf.new result }
     ensures lent { Lent store.old store.new }
 {
-    let report = passes::test(
-        table,
-        limit,
-        store.symbols,
-        store.graphs,
-        store.productions,
-        store.kids,
-    );
+    let report = passes::test(table, limit, store);
     print::report_text(buf, table, report, store.entries())
 }

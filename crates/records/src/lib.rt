@@ -28,14 +28,7 @@ fn run(table: &[u8], limit: u32, row: &mut [Entry], part: &mut Store<'_>) -> Rep
     requires { room_of (held part.old) ≡ row_room row.old }
     ensures { RowTested table.now limit row.old result row.new }
 {
-    let report = passes::test(
-        table,
-        limit,
-        part.symbols,
-        part.graphs,
-        part.productions,
-        part.kids,
-    );
+    let report = passes::test(table, limit, part);
     store(row, part.entries(), usize::from(report.entries));
     report
 }

@@ -5,5 +5,5 @@ use Rattle.answers.proofs.test_text.Goals as goal
 
 pub returns-clause-printed : goal.returns-clause-printed
 returns-clause-printed c =
-    test_printed c.args.table.now c.args.limit (held c.args.store.now) c.test-report.result _ _ c.entries.ensures c.test-report.ensures
+    test_printed c.args.table.now c.args.limit (held c.args.store.now) c.test-report.result _ _ c.entries.ensures c.test-report.ensures.tested
     c.report_text.ensures

@@ -54,11 +54,11 @@ module _ (bs : List ℕ) (limit : ℕ) (ys : List Entry) (σ τ υ : Slices) (r 
 pub store-requires : goal.store-requires
 store-requires c =
     let a = c.args in
-    fit a.table.now a.limit a.row.now (held a.part.now) _ _ c.test-report.result c.requires c.test-report.ensures c.entries.ensures
+    fit a.table.now a.limit a.row.now (held a.part.now) _ _ c.test-report.result c.requires c.test-report.ensures.tested c.entries.ensures
     c.from.result c.from.ensures
 
 pub returns : goal.returns
 returns c =
     let a = c.args in
-    rows a.table.now a.limit a.row.now (held a.part.now) _ _ c.test-report.result c.requires c.test-report.ensures c.entries.ensures
+    rows a.table.now a.limit a.row.now (held a.part.now) _ _ c.test-report.result c.requires c.test-report.ensures.tested c.entries.ensures
     c.from.result c.store.new.row c.from.ensures c.store.ensures
