@@ -1,13 +1,12 @@
 -- The row after a test agrees with the slices, record by record, exactly if these hold what the test over slices would leave in them.
 -- Assumes nothing.
-use mathlib.Core.Path.{◌≡◌, refl, sym, ap, subst, ◌∙◌}
-use mathlib.Core.List.{List, map}
-use Rattle.std.specs.Prelude.{Option, Some}
+use mathlib.Core.Path.{◌≡◌, refl, sym, ap, ◌∙◌}
+use mathlib.Core.List.{List, ◌++◌, map}
 use mathlib.Core.Logic.{◌↔◌}
 use Prim.Native.Nat.{ℕ, zero, suc, ◌*◌, ◌≤◌, ◌<◌, min}
 use native.Mathlib.Omega.{arith}
-use lib.ListN.{length, get_or, get_or-replicate}
-use lib.Seq.{ext_get_or}
+use lib.ListN.{length, get_or, take, drop, get_or-replicate}
+use lib.Seq.{ext_get_or, length-take-le}
 use Rattle.numbers.specs.Lists.{written}
 use Rattle.rules.specs.declared.Entry.{Entry}
 use Rattle.rules.specs.declared.Report.{Report}
@@ -19,8 +18,9 @@ use Rattle.passes.specs.Follow.{Beyond}
 use Rattle.passes.proofs.Entries.{length_entries, entry_at_lem, field_taken, kids_taken, written_over}
 use Rattle.passes.proofs.Testing.{tells_same}
 use Rattle.passes.proofs.Told.{entries_fit, entries_told}
-use Rattle.rows.proofs.Writing.{length_written, written_there, written_rest}
-use Rattle.agreement.specs.Agreement.{blank_entry, Alike, row_of, Tries}
+use Rattle.rows.proofs.Writing.{length_written, written_there, written_rest, written_front}
+use Rattle.records.specs.Records.{row_room, RowTested}
+use Rattle.agreement.specs.Agreement.{blank_entry, Alike, row_of}
 use Rattle.agreement.proofs.Rowing.{length_row}
 use Rattle.agreement.proofs.Finding.{different_test, NewAt, found_here, not_before}
 
@@ -117,19 +117,37 @@ module _ (bs : List ℕ) (limit room : ℕ) (few : room ≤ 4096) (σ : Slices) 
           written_over (7 * n) (all_kids es) σ.kids σ.kids (ap all_kids (sym read) ∙ kids_taken σ n l) l same;
     }
 
--- ---- what comes of the test over a row, against a report and slices
+-- ---- the test over the front of a row in which b stood everywhere, with the rest of the row behind it, against a report and slices
 
-module _ (bs : List ℕ) (limit room most : ℕ) (σ : Slices) (b : Entry) (r : Option Report) (report : Report)
-    (clipped : most ≡ min 4096 room) (blank : b ≡ blank_entry) (tries : Tries (test bs limit most) b σ r) where
+module _ (bs : List ℕ) (limit room most : ℕ) (σ : Slices) (b : Entry) (r : Report) (zs : List Entry)
+    (clipped : most ≡ min 4096 room) (blank : b ≡ blank_entry) (tested : RowTested bs limit (take most (row_of b)) r zs) where
   few : most ≤ 4096
   few = omega (arith, clipped)
 
-  tried : Tries (test bs limit most) blank_entry σ r
-  tried = subst (λ (x : Entry). Tries (test bs limit most) x σ r) blank tries
+  abbrev xs : List Entry
+  xs = row_of b
 
-  pub agrees : (r ≡ Some report) ↔ Tells (test bs limit (min 4096 room)) σ report σ
-  agrees = (
-    λ h. let w = (tried report).0 h in tells_same (ap (test bs limit) clipped) (alike_told bs limit most few σ w.1 report w.0),
-    λ told. let clip : Tells (test bs limit most) σ report σ = tells_same (ap (test bs limit) (sym clipped)) told in
-        (tried report).1 (clip.report, told_alike bs limit most few σ report clip),
-  )
+  inside : most ≤ length xs
+  inside = omega (arith, few, length_row b)
+
+  room_is : row_room (take most xs) ≡ most
+  room_is = omega (arith, few, length-take-le most xs inside)
+
+  report_is : r ≡ (test bs limit most).report
+  report_is = tested.report ∙ ap (λ (j : ℕ). (test bs limit j).report) room_is
+
+  after_is : zs ++ drop most xs ≡ written (test bs limit most).entries (row_of blank_entry)
+  after_is =
+      ap (λ (es : List Entry). es ++ drop most xs)
+      (tested.entries ∙ ap (λ (j : ℕ). written (test bs limit j).entries (take most xs)) room_is)
+      ∙ written_front (test bs limit most).entries xs most (counted_test bs limit most).sound.fits inside
+      ∙ ap (λ (x : Entry). written (test bs limit most).entries (row_of x)) blank
+
+  pub agrees : (report : Report) → ((r ≡ report) × Alike σ r.entries (zs ++ drop most (row_of b))) ↔ Tells (test bs limit (min 4096 room)) σ report σ
+  agrees report =
+      let count : r.entries ≡ (test bs limit most).report.entries = ap (λ (y : Report). y.entries) report_is in (
+        λ w. tells_same (ap (test bs limit) clipped)
+            (alike_told bs limit most few σ (rw (count, after_is) at w.1) report (sym w.0 ∙ report_is)),
+        λ told. let clip : Tells (test bs limit most) σ report σ = tells_same (ap (test bs limit) (sym clipped)) told in
+            (report_is ∙ sym clip.report, rw (count, after_is) (told_alike bs limit most few σ report clip)),
+      )

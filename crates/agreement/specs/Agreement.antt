@@ -1,10 +1,8 @@
 -- How a row of records that was blank before the test is compared with parallel slices, in which so many entries are stored. The promise of
 -- `agrees` needs none of this. Assumes nothing.
-use Rattle.std.specs.Prelude.{Option, Some, None, List, ◌↔◌, ◌≡◌, ℕ, ◌≤◌, ◌<◌, length, take, replicate}
-use Rattle.numbers.specs.Lists.{written}
+use Rattle.std.specs.Prelude.{Option, Some, None, List, ◌≡◌, ℕ, ◌≤◌, ◌<◌, length, take, replicate}
 use Rattle.rules.specs.declared.Entry.{Entry}
-use Rattle.rules.specs.declared.Report.{Report}
-use Rattle.rules.specs.Passes.{Outcome, entry}
+use Rattle.rules.specs.Passes.{entry}
 use Rattle.passes.specs.Slices.{Slices, room_of, entry_at}
 use Rattle.lookups.specs.Lookup.{first_of}
 
@@ -21,16 +19,14 @@ pub record AsTold (σ : Slices) (n i : ℕ) (first before : Option ℕ) (e : Ent
 abbrev pub place_of : Entry → List Entry → Option ℕ
 place_of e es = first_of e.symbol e.graph es
 
--- each record of the row
+-- the record of the row at i
+abbrev pub AlikeAt : Slices → ℕ → List Entry → ℕ → Type 0
+AlikeAt σ n es i = AsTold σ n i (place_of (entry es i) (take (length es) es)) (place_of (entry es i) (take i es)) (entry es i)
+
+-- each of them
 abbrev pub Alike : Slices → ℕ → List Entry → Type 0
-Alike σ n es =
-    (i : ℕ) → i < length es
-    → AsTold σ n i (place_of (entry es i) (take (length es) es)) (place_of (entry es i) (take i es)) (entry es i)
+Alike σ n es = (i : ℕ) → i < length es → AlikeAt σ n es i
 
 -- 4096 times one entry
 unfoldable pub row_of : Entry → List Entry
 row_of e = replicate 4096 e
-
--- a report is given exactly where the row in which e stood everywhere, with the outcome's entries in front, is found alike; it is the outcome's
-abbrev pub Tries : Outcome → Entry → Slices → Option Report → Type 0
-Tries o e σ r = (x : Report) → (r ≡ Some x) ↔ ((x ≡ o.report) × Alike σ o.report.entries (written o.entries (row_of e)))

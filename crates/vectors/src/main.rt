@@ -13,7 +13,7 @@ use print::OTHER_LINES;
 use rules::{Answer, MOST_ENTRIES, Report};
 use std::io;
 use std::io::{ErrorKind, Read, Write};
-use steps::Entries;
+use steps::{Entries, Store};
 
 // Any table, good or bad, that a case has.
 const TABLE_BYTES: usize = 65535;
@@ -72,33 +72,23 @@ fn one_run<R: Read, W: Write>(input: &mut R, output: &mut W, table: &[u8]) -> io
     let mut graphs = [0; MOST_ENTRIES];
     let mut productions = [0; MOST_ENTRIES];
     let mut kids = [0; KIDS];
-    let report = passes::test(
-        table,
-        limit,
-        &mut symbols[..room],
-        &mut graphs[..room],
-        &mut productions[..room],
-        &mut kids[..SLOTS * room],
-    );
-    if !agreement::agrees(
-        table,
-        limit,
-        room,
-        report,
-        &symbols,
-        &graphs,
-        &productions,
-        &kids,
-    ) {
+    let mut store = Store {
+        symbols: &mut symbols[..room],
+        graphs: &mut graphs[..room],
+        productions: &mut productions[..room],
+        kids: &mut kids[..SLOTS * room],
+    };
+    let report = passes::test(table, limit, &mut store);
+    let entries = Entries {
+        symbols: &symbols,
+        graphs: &graphs,
+        productions: &productions,
+        kids: &kids,
+    };
+    if !agreement::agrees(table, limit, room, report, entries) {
         let _ = output.write_all(b"the row of records differs\n");
     }
     if asked[6] == 1 {
-        let entries = Entries {
-            symbols: &symbols,
-            graphs: &graphs,
-            productions: &productions,
-            kids: &kids,
-        };
         print_whole(output, table, report, entries);
     } else {
         print_short(output, table, report);
