@@ -49,7 +49,7 @@ use Rattle.ways.proofs.Program.{behind, demanded, carried}
 -- ---- over lent slices
 
 pub program : ProgramAlways
-program κs a r s promised = carried a.0.now a.1.0 (slices_given κs a) r (slices_left κs s) promised
+program κs a r s promised = (carried a.0.now a.1.0 (slices_given κs a) r (slices_left κs s) promised.0, promised.1)
 
 -- ---- over a lent row of records
 

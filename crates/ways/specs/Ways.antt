@@ -23,6 +23,7 @@ use Rattle.rules.specs.declared.Report.{Report}
 use Rattle.rules.specs.declared.Entry.{Entry}
 use Rattle.rules.specs.Passes.{Outcome, numbered, no_value, entry}
 use Rattle.texts.specs.Lines.{kids_in, printed}
+use Rattle.steps.specs.Lent.{held, Lent}
 use Rattle.passes.specs.Slices.{Slices, slices}
 use Rattle.passes.proofs.test.Kinds as slices_kinds
 use Rattle.passes.proofs.test.Reads as slices_reads
@@ -36,27 +37,27 @@ use Rattle.kusillaqe.proofs.kusillaqe_test.Reads as export_reads
 use Rattle.verdict.specs.Demands.{back}
 use Rattle.ways.specs.Program.{Demanded, Program}
 
--- ---- over lent slices: `passes::test`, with its parameters table, limit, symbols, graphs, productions, kids
+-- ---- over lent slices: `passes::test`, with its parameters table, limit, store
 
-module _ (κs : Lfts 5) where
+module _ (κs : Lfts 3) where
   -- the arguments of a call, and the parameters when it returns
   abbrev pub SlicesIn : Type 0
   SlicesIn = Dens κs slices_kinds.ps
 
   abbrev pub SlicesOut : Type 0
-  SlicesOut = AtExit (ended_of 5 slices_kinds.ps slices_kinds.r) κs
+  SlicesOut = AtExit (ended_of 3 slices_kinds.ps slices_kinds.r) κs
 
-  -- the slices, before and after
+  -- what the slices of the store hold, before and after; they are the same slices
   abbrev pub slices_given : SlicesIn → Slices
-  slices_given a = slices a.1.1.0.now a.1.1.1.0.now a.1.1.1.1.0.now a.1.1.1.1.1.0.now
+  slices_given a = held a.1.1.0.now
 
   abbrev pub slices_left : SlicesOut → Slices
-  slices_left s = slices s.1.1.0.now s.1.1.1.0.now s.1.1.1.1.0.now s.1.1.1.1.1.0.now
+  slices_left s = held s.1.1.0.now
 
 abbrev pub ProgramAlways : Type 0
 ProgramAlways =
-    (κs : Lfts 5) (a : SlicesIn κs) (r : Report) (s : SlicesOut κs) → slices_reads.Post κs a r s
-    → Program a.0.now a.1.0 (slices_given κs a) r (slices_left κs s)
+    (κs : Lfts 3) (a : SlicesIn κs) (r : Report) (s : SlicesOut κs) → slices_reads.Post κs a r s
+    → Program a.0.now a.1.0 (slices_given κs a) r (slices_left κs s) × Lent a.1.1.0.now s.1.1.0.now
 
 -- ---- over a lent row of records: `records::test`, with its parameters table, limit, entries
 
@@ -89,7 +90,8 @@ RowAlways =
     → ent 𝓤 ((row.clauses 𝓛 mem run κs a).ensures tt r s)
     (fact 𝓤 (RowProgram a.0.now a.1.0 a.1.1.0.now r s.1.1.0.now))
 
--- ---- where Rust and C call it: `kusillaqe::kusillaqe_test`, with the same parameters as `passes::test` and one for 141 numbers
+-- ---- where Rust and C call it: `kusillaqe::kusillaqe_test`, with its parameters table, limit, symbols, graphs, productions, kids, and one for
+-- 141 numbers
 
 -- how a caller reads the answer, from its number and the value beside it: 0 is noncircular, 255 circular, any other the rules' number, with
 -- a record where the value is one
