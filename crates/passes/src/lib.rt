@@ -17,9 +17,9 @@ ghost use Rattle.passes.specs.Follow.{ending_of, unsaid, Follows, Roomy, InTurn,
 
 use grammar::{NODES, Production, SLOTS};
 use graph::Trail;
-use parts::WORDS;
 use rules::{Answer, Report};
 use steps::{Run, Stop, Store, Task, Verdict};
+use walks::TakingPart;
 
 // How the passes have ended: of a report all but the circle.
 #[derive(Clone, Copy)]
@@ -102,15 +102,14 @@ fn task_of(number: usize, production: Production, room: usize) -> Task
 fn turn(
     table: &[u8],
     number: usize,
-    treed: &[u64; WORDS],
-    reached: &[u64; WORDS],
+    part: &TakingPart,
     store: &mut Store<'_>,
     room: usize,
     run: Run,
 ) -> Result<Run, Stop>
     requires { (refusal table.now ≡ Ok tt) × (number < P table.now) × Roomy room (held store.old) run }
     ensures follows { Follows room (λ limit. stated.pass (system_in table.now) limit room
-        (parts_among treed.now reached.now (grammar_of table.now) (number ∷ [])))
+        (parts_among part.now.treed.words part.now.reached.words (grammar_of table.now) (number ∷ [])))
         (held store.old) run
         (held store.new) result }
     ensures lent { Lent store.old store.new }
@@ -123,7 +122,7 @@ fn turn(
     if !turns::first_candidates(store.entries().symbols, &rights, count, first, &mut firsts) {
         return Ok(run);
     }
-    if !walks::takes_part(production, treed, reached) {
+    if !part.has(&production) {
         return Ok(run);
     }
     let edges = tables::run_of(table, number);
@@ -135,22 +134,21 @@ fn turn(
 fn pass(
     table: &[u8],
     count: usize,
-    treed: &[u64; WORDS],
-    reached: &[u64; WORDS],
+    part: &TakingPart,
     store: &mut Store<'_>,
     room: usize,
     run: Run,
 ) -> Result<Run, Stop>
     requires { (refusal table.now ≡ Ok tt) × (count ≡ P table.now) × Roomy room (held store.old) run }
     ensures follows { Follows room (λ limit. stated.pass (system_in table.now) limit room
-        (parts_among treed.now reached.now (grammar_of table.now) (up_from 0 count)))
+        (parts_among part.now.treed.words part.now.reached.words (grammar_of table.now) (up_from 0 count)))
         (held store.old) run
         (held store.new) result }
     ensures lent { Lent store.old store.new }
 {
     let mut now = run;
     for number in 0..count {
-        now = turn(table, number, treed, reached, store, room, now)?;
+        now = turn(table, number, part, store, room, now)?;
     }
     Ok(now)
 }
@@ -174,15 +172,14 @@ fn ended(stop: Stop, limit: u32, begun: u16) -> Ending
 fn passes(
     table: &[u8],
     count: usize,
-    treed: &[u64; WORDS],
-    reached: &[u64; WORDS],
+    part: &TakingPart,
     store: &mut Store<'_>,
     room: usize,
     limit: u32,
 ) -> Ending
     requires { (refusal table.now ≡ Ok tt) × (count ≡ P table.now) × (room ≡ room_of (held store.old)) }
     ensures tells { Tells (stated.passes (system_in table.now) limit room
-        (parts_among treed.now reached.now (grammar_of table.now) (up_from 0 count)))
+        (parts_among part.now.treed.words part.now.reached.words (grammar_of table.now) (up_from 0 count)))
         (held store.old) (unsaid result) (held store.new) }
     ensures lent { Lent store.old store.new }
 {
@@ -194,7 +191,7 @@ fn passes(
     loop {
         let before = now.stored;
         begun += 1;
-        now = match pass(table, count, treed, reached, store, room, now) {
+        now = match pass(table, count, part, store, room, now) {
             Ok(now) => now,
             Err(stop) => return ended(stop, limit, begun),
         };
@@ -268,9 +265,8 @@ fn passes_over(table: &[u8], limit: u32, store: &mut Store<'_>) -> Ending
     let room = store.entries().room();
     let header = tables::header_of(table);
     let count = numbers::wide(header.productions);
-    let treed = walks::treed_of(table);
-    let reached = walks::reached_of(table, &treed);
-    passes(table, count, &treed, &reached, store, room, limit)
+    let part = TakingPart::of(table);
+    passes(table, count, &part, store, room, limit)
 }
 
 // The circularity test of a table with at most `limit` closures. The stored entries are left at the front of the slices.

@@ -33,7 +33,7 @@ returns-in_err-now-clause-follows c =
     let l = c.loop-number in
     let w = err_from_is_err_and c.from_residual.result c.from_residual.ensures.1 in
     rw (w.1, w.2)
-    (pass_stopped (system_in a.table.now) a.room (λ p. takes_part a.treed.now a.reached.now (production (grammar_of a.table.now) p)) _ a.run _
+    (pass_stopped (system_in a.table.now) a.room (λ p. takes_part a.part.now.treed.words a.part.now.reached.words (production (grammar_of a.table.now) p)) _ a.run _
     l.now l.number l.invariant.1 a.count c.loop-number-test.true _ _ (rw (sym c.in_err-now.was) c.turn.ensures.follows))
 
 pub loop-number-preserved : goal.loop-number-preserved
@@ -41,7 +41,7 @@ loop-number-preserved c =
     let a = c.args in
     let l = c.loop-number in (
       omega arith,
-      pass_more (system_in a.table.now) a.room (λ p. takes_part a.treed.now a.reached.now (production (grammar_of a.table.now) p)) _ a.run _
+      pass_more (system_in a.table.now) a.room (λ p. takes_part a.part.now.treed.words a.part.now.reached.words (production (grammar_of a.table.now) p)) _ a.run _
           l.now l.number l.invariant.1 _ _ (rw (sym c.in_ok-now.was) c.turn.ensures.follows),
       lent_then l.invariant.2 c.turn.ensures.lent,
     )
@@ -53,6 +53,6 @@ returns-clause-follows c =
     let e : l.number ≡ a.count = omega arith in
     subst
     (λ (n : ℕ). Follows a.room
-    (through (system_in a.table.now) a.room (λ p. takes_part a.treed.now a.reached.now (production (grammar_of a.table.now) p)) (up_from 0 n))
+    (through (system_in a.table.now) a.room (λ p. takes_part a.part.now.treed.words a.part.now.reached.words (production (grammar_of a.table.now) p)) (up_from 0 n))
     (held a.store.now) a.run (held l.store) (Ok l.now)) e
     l.invariant.1

@@ -14,7 +14,7 @@ use Rattle.passes.proofs.pass.Given as goal
 abbrev pub invariant-loop-number : goal.invariant-loop-number
 invariant-loop-number l =
     (l.number ≤ l.count)
-    × Follows l.room (through (system_in l.table) l.room (λ p. takes_part l.treed l.reached (production (grammar_of l.table) p)) (up_from 0 l.number)) (held l.initial.store) l.initial.now
+    × Follows l.room (through (system_in l.table) l.room (λ p. takes_part l.part.treed.words l.part.reached.words (production (grammar_of l.table) p)) (up_from 0 l.number)) (held l.initial.store) l.initial.now
     (held l.store) (Ok l.now)
     × Lent l.initial.store l.store
 

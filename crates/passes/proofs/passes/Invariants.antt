@@ -11,7 +11,7 @@ use Rattle.passes.proofs.passes.Given as goal
 
 abbrev pub invariant-loop-now : goal.invariant-loop-now
 invariant-loop-now l =
-    Reached (system_in l.table) l.limit l.room (parts_among l.treed l.reached (grammar_of l.table) (up_from 0 l.count)) (held l.initial.store) l.initial.now l.begun
+    Reached (system_in l.table) l.limit l.room (parts_among l.part.treed.words l.part.reached.words (grammar_of l.table) (up_from 0 l.count)) (held l.initial.store) l.initial.now l.begun
     (held l.store) l.now
     × Lent l.initial.store l.store
 

@@ -22,7 +22,7 @@ pub returns-clause-tells : goal.returns-clause-tells
 returns-clause-tells c =
     let a = c.args in
     tells_same
-    (passes_taken a.table.now a.limit _ _ c.treed_of-treed.result _ (held a.store.now) c.requires
-    (counted a.table.now _ _ c.header_of-header.ensures c.wide-count.ensures) (c.room-room.ensures ∙ ap room_of c.entries.ensures) c.treed_of-treed.ensures
-    c.reached_of-reached.ensures)
+    (passes_taken a.table.now a.limit _ _ c.of-part.result.treed.words _ (held a.store.now) c.requires
+    (counted a.table.now _ _ c.header_of-header.ensures c.wide-count.ensures) (c.room-room.ensures ∙ ap room_of c.entries.ensures) c.of-part.ensures.0
+    c.of-part.ensures.1)
     c.passes.ensures.tells

@@ -93,18 +93,18 @@ pub returns-then-not-first_candidates-clause-follows : goal.returns-then-not-fir
 returns-then-not-first_candidates-clause-follows c =
     let a = c.args in
     let p = c.production_of-production in
-    part_still (system_in a.table.now) a.room (λ i. takes_part a.treed.now a.reached.now (production (grammar_of a.table.now) i)) a.number _
+    part_still (system_in a.table.now) a.room (λ i. takes_part a.part.now.treed.words a.part.now.reached.words (production (grammar_of a.table.now) i)) a.number _
     a.run c.requires.2.stored
     (nothing a.table.now c.requires.0 a.number a.room _ a.run c.requires.2 p.result p.ensures c.wide-count.ensures
     (ap (λ (σ : Slices). σ.symbols) c.entries.ensures) c.first_candidates.ensures c.if-not-first_candidates.true)
 
-pub returns-then-not-takes_part-clause-follows : goal.returns-then-not-takes_part-clause-follows
-returns-then-not-takes_part-clause-follows c =
+pub returns-then-not-has-clause-follows : goal.returns-then-not-has-clause-follows
+returns-then-not-has-clause-follows c =
     let a = c.args in
     let p = c.production_of-production in
-    let part = told a.treed.now a.reached.now p.result _ _ p.ensures c.takes_part.ensures in
-    part_skip (system_in a.table.now) a.room (λ i. takes_part a.treed.now a.reached.now (production (grammar_of a.table.now) i)) a.number _
-    a.run (sym part ∙ c.if-not-takes_part.true) c.requires.2.stored
+    let part = told a.part.now.treed.words a.part.now.reached.words p.result _ _ p.ensures c.has.ensures in
+    part_skip (system_in a.table.now) a.room (λ i. takes_part a.part.now.treed.words a.part.now.reached.words (production (grammar_of a.table.now) i)) a.number _
+    a.run (sym part ∙ c.if-not-has.true) c.requires.2.stored
 
 pub task_of-task-requires : goal.task_of-task-requires
 task_of-task-requires c = omega (arith, c.requires.1, few_productions c.args.table.now c.requires.0)
@@ -131,9 +131,9 @@ returns-clause-follows c =
     let a = c.args in
     let p = c.production_of-production in
     let k = c.task_of-task in
-    let part = told a.treed.now a.reached.now p.result _ _ p.ensures c.takes_part.ensures in
-    part_turn (system_in a.table.now) a.room (λ i. takes_part a.treed.now a.reached.now (production (grammar_of a.table.now) i)) a.number _
-    a.run (sym part ∙ c.if-not-takes_part.false) _ _
+    let part = told a.part.now.treed.words a.part.now.reached.words p.result _ _ p.ensures c.has.ensures in
+    part_turn (system_in a.table.now) a.room (λ i. takes_part a.part.now.treed.words a.part.now.reached.words (production (grammar_of a.table.now) i)) a.number _
+    a.run (sym part ∙ c.if-not-has.false) _ _
     (task_turn a.table.now c.requires.0 a.number a.room _ a.run k.result
     (k.ensures ∙ made a.table.now c.requires.0 a.number a.room _ a.run c.requires.2 p.result p.ensures) p.result.slots
     (slots_are a.table.now c.requires.0 a.number a.room _ a.run c.requires.2 p.result p.ensures) _ c.run_of-edges.ensures _ _
