@@ -1,3 +1,4 @@
 -- Laws that belong to no one function.
 pub mod OneReading
 pub mod Asked
+pub mod Ordered

@@ -140,24 +140,19 @@ slots_seven bs p = go (dec_lt p (P bs))
     go (yes l) = rw (production_there bs p l, slots_are)
     go (no f) = rw (production_none bs p (omega arith), length-replicate)
 
--- the fields of a production, each read by itself
-module _ (bs : List ℕ) (p : ℕ) (h : p < P bs) where
-  abbrev at : ℕ
-  at = at_productions bs + 18 * p
-
-  pub left_read : le2 bs (at_productions bs + 18 * p) ≡ (production (grammar_of bs) p).left
+-- the fields of a production record, each read by itself
+module _ (bs : List ℕ) (i : ℕ) where
+  pub left_in : le2 bs i ≡ (production_in bs i).left
   unfolding production_in
-  left_read = ap (λ (q : Production). q.left) (sym (production_there bs p h))
+  left_in = refl
 
-  pub count_read : le2 bs (at_productions bs + 18 * p + 2) ≡ (production (grammar_of bs) p).n
+  pub count_in : le2 bs (i + 2) ≡ (production_in bs i).n
   unfolding production_in
-  count_read = ap (λ (q : Production). q.n) (sym (production_there bs p h))
+  count_in = refl
 
-  pub slot_read : (k : ℕ) → k < 7 → le2 bs (at_productions bs + 18 * p + 4 + 2 * k) ≡ get_or (production (grammar_of bs) p).slots k 0
+  pub slot_in : (k : ℕ) → k < 7 → le2 bs (i + 4 + 2 * k) ≡ get_or (production_in bs i).slots k 0
   unfolding production_in
-  slot_read k l =
-      sym (at_below (λ j. le2 bs (at + 4 + 2 * j)) 0 7 k l)
-      ∙ ap (λ (q : Production). get_or q.slots k 0) (sym (production_there bs p h))
+  slot_in k l = sym (at_below (λ j. le2 bs (i + 4 + 2 * j)) 0 7 k l)
 
 pub slots_by :
     {a b c d e f g a' b' c' d' e' f' g' : ℕ}

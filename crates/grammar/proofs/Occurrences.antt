@@ -1,6 +1,6 @@
 -- The symbol at an occurrence, and the bit of an attribute, as the code finds them. Assumes nothing.
 use mathlib.Core.Path.{◌≡◌, refl, sym, ap, ◌∙◌}
-use Prim.Native.Nat.{ℕ, zero, suc, ◌-◌, ◌*◌, ◌%◌, ◌^◌, ◌≤◌, ◌<◌}
+use Prim.Native.Nat.{ℕ, zero, suc, ◌-◌, ◌*◌, ◌%◌, ◌^◌, ◌≤◌, ◌<◌, min}
 use native.Mathlib.Nat.{one-mul, div-eq_of_lt, lt_of_lt_of_le}
 use native.Mathlib.Omega.{arith}
 use lib.Dec.{eqb}
@@ -25,16 +25,10 @@ module _ (p : Production) where
       let e : suc o - 1 ≡ o = omega arith in
       rw e (sym (get_or-take p.n p.slots o 0 (omega arith)))
 
-  pub at_none : (o : ℕ) → (o ≡ 0 → ⊥) → p.n ≤ o - 1 → 0 ≡ symbol_at p o
+  pub at_none : (o : ℕ) → (o ≡ 0 → ⊥) → min p.n (length p.slots) ≤ o - 1 → 0 ≡ symbol_at p o
   unfolding symbol_at
   at_none zero h l = absurd (h refl)
   at_none (suc o) h l =
-      sym (get_or-eq_default (take p.n p.slots) 0 (omega (arith, length-take p.n p.slots)))
-
-  pub at_slot_none : (o : ℕ) → (o ≡ 0 → ⊥) → length p.slots ≤ o - 1 → 0 ≡ symbol_at p o
-  unfolding symbol_at
-  at_slot_none zero h l = absurd (h refl)
-  at_slot_none (suc o) h l =
       sym (get_or-eq_default (take p.n p.slots) 0 (omega (arith, length-take p.n p.slots)))
 
 -- ---- masks of 16 bits
