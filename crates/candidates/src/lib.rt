@@ -4,17 +4,14 @@
 ghost use Rattle.std.specs.Prelude.{◌≡◌};
 ghost use Rattle.candidates.specs.Next.{next_of};
 
-// The number of the next entry of the symbol at or after `from`, and `first` where there is none below it.
-pub fn next_candidate(symbols: &[u16], symbol: u16, from: usize, first: usize) -> usize
+// The number of the next entry of the symbol at or after `from` and below `first`, if there is one.
+pub fn next_candidate(symbols: &[u16], symbol: u16, from: usize, first: usize) -> Option<usize>
     ensures { result ≡ next_of symbols.now symbol from first }
 {
-    let end = numbers::smaller(first, symbols.len());
-    let mut e = from;
-    while e < end {
+    for e in from..first.min(symbols.len()) {
         if symbols[e] == symbol {
-            return e;
+            return Some(e);
         }
-        e += 1;
     }
-    first
+    None
 }

@@ -1,7 +1,7 @@
 -- The turn without the combinations whose entries are all old: it begins at the first of the others, and goes on from one to the next.
 -- Assumes nothing.
 use mathlib.Core.Path.{◌≡◌, refl, sym, ap, ◌∙◌}
-use mathlib.Core.Bool.{Bool, true, false, false≢true}
+use mathlib.Core.Bool.{Bool, ◌&&◌, true, false, false≢true}
 use mathlib.Core.List.{List, [], ◌∷◌}
 use mathlib.Core.Logic.{◌⊎◌, inl, inr, ⊎_elim}
 use Prim.Native.Nat.{ℕ, zero, suc, ◌≤◌, ◌<◌}
@@ -11,8 +11,9 @@ use native.Mathlib.Omega.{arith}
 use lib.Dec.{ltb}
 use lib.ListN.{length, get_or, set, take, length-set, length-take}
 use lib.Seq.{get_or-take, get_or-set_same}
-use borrow.Author.Tests.{ltb-true, ltb-false, lt-ltb, le-ltb}
-use Rattle.numbers.specs.Lists.{both, every, keep}
+use borrow.Author.Tests.{lt-ltb, le-ltb}
+use Rattle.std.specs.Prelude.{Option, None, Some, MatchOption}
+use Rattle.numbers.specs.Lists.{keep}
 use Rattle.candidates.specs.Next.{next_of}
 use Rattle.turns.specs.declared.Newest.{Newest}
 use Rattle.turns.specs.Combos.{combos_of, behind, First}
@@ -20,7 +21,7 @@ use Rattle.turns.specs.Moves.{Moved}
 use Rattle.turns.specs.Skips.{all_below, with_new, newest_to, skipped}
 use Rattle.turns.specs.Turning.{of_symbol, Numbers, Firsts, GoesOn}
 use Rattle.turns.proofs.Odometer.{begins}
-use Rattle.turns.proofs.Turning.{numbers_long, numbers_set, set_at, Candidate, candidate}
+use Rattle.turns.proofs.Turning.{numbers_long, numbers_set, set_at, Candidate, NoCandidate, candidate, no_candidate}
 use Rattle.turns.proofs.Skipping.{All, one_new, skips, NoneNew}
 
 apart : (a b : ℕ) → (a < b) ⊎ (b ≤ a)
@@ -35,12 +36,11 @@ apart a b = go (dec_lt a b)
 module _ (old : ℕ) where
   -- one that is not
   not_all : (c : List ℕ) (k : ℕ) → k < length c → old ≤ get_or c k 0 → all_below old c ≡ false
-  unfolding every both
   not_all [] k l h = absurd (omega arith)
   not_all (x ∷ c) zero l h = rw (le-ltb x old h)
   not_all (x ∷ c) (suc k) l h = go (ltb x old) (not_all c k (omega arith) h)
     where
-      go : (b : Bool) → every (λ i. ltb i old) c ≡ false → both b (every (λ i. ltb i old) c) ≡ false
+      go : (b : Bool) → all_below old c ≡ false → (b && all_below old c) ≡ false
       go true r = r
       go false r = refl
 
@@ -53,7 +53,6 @@ module _ (old : ℕ) where
       go (no n) = absurd (false≢true (sym (not_all c k l (omega arith)) ∙ h))
 
   all_of : (c : List ℕ) → ((k : ℕ) → k < length c → get_or c k 0 < old) → all_below old c ≡ true
-  unfolding every both
   all_of [] h = refl
   all_of (x ∷ c) h = rw (lt-ltb x old (h 0 (omega arith))) (all_of c (λ k l. h (suc k) (omega arith)))
 
@@ -80,9 +79,8 @@ module _ (symbols₀ symbols rights : List ℕ) (first places old : ℕ) (few : 
     pub olds : (j : ℕ) → j < fresh → test i j ≡ true → j < old
     pub later : NoneNew old test first places (suc i)
 
-  pub record NewestIs (m : Newest) : Type 0 where
-    pub last : m.some ≡ true → Last m.place m.entry
-    pub none : m.some ≡ false → NoneNew old test first places 0
+  abbrev pub NewestIs : Option Newest → Type 0
+  NewestIs r = MatchOption r (NoneNew old test first places 0) (λ m. Last m.place m.entry)
 
   old_before : (i e j : ℕ) → ((k : ℕ) → old ≤ k → k < e → test i k ≡ false) → j < e → test i j ≡ true → j < old
   old_before i e j h l hit = go (dec_lt j old)
@@ -92,44 +90,38 @@ module _ (symbols₀ symbols rights : List ℕ) (first places old : ℕ) (few : 
       go (no n) = absurd (false≢true (sym (h j (omega arith) l) ∙ hit))
 
   module _ (i : ℕ) (low : i < places) (h : NoneNew old test first places (suc i)) where
-    abbrev e : ℕ
-    e = next_of symbols (get_or rights i 0) old first
-
-    w : Candidate symbols₀ symbols rights first places few held stay i old e
-    w = candidate symbols₀ symbols rights first places few held stay i old known
-
-    found : e < first → Last i e
-    found x =
+    found : (e : ℕ) → Candidate symbols₀ symbols rights first places few held stay i old e → Last i e
+    found e w =
         record {
           low = low;
-          below = x;
-          hit = w.hit x;
+          below = w.within;
+          hit = w.hit;
           new = w.after_it;
           olds = λ j l t. old_before i e j w.none l t;
           later = h;
         }
 
     -- place i has none either
-    none_either : first ≤ e → NoneNew old test first places i
-    none_either x j m a b c t =
+    none_either : NoCandidate symbols₀ symbols rights first places few held stay i old → NoneNew old test first places i
+    none_either none j m a b c t =
         ⊎_elim
         (λ z. let k : j ≡ i = omega (arith, z) in
-        old_before i e m w.none (omega (arith, c, x)) (ap (λ (p : ℕ). test p m) (sym k) ∙ t))
+        old_before i first m none c (ap (λ (p : ℕ). test p m) (sym k) ∙ t))
         (λ l. h j m (omega (arith, l)) b c t)
         (eq-or-lt_of_le a)
 
-    newest_step : (first ≤ e → NewestIs (newest_to symbols rights old first i)) → NewestIs (newest_to symbols rights old first (suc i))
+    newest_step : (NoneNew old test first places i → NewestIs (newest_to symbols rights old first i)) → NewestIs (newest_to symbols rights old first (suc i))
     unfolding newest_to
-    newest_step r = go (ltb e first) refl
+    newest_step r = go (next_of symbols (get_or rights i 0) old first) refl
       where
-        go : (b : Bool) → ltb e first ≡ b → NewestIs (newest_to symbols rights old first (suc i))
-        go true q = rw q (record { last = λ y. found (ltb-true e first q); none = λ y. absurd (false≢true (sym y)) })
-        go false q = rw q (r (ltb-false e first q))
+        go : (x : Option ℕ) → next_of symbols (get_or rights i 0) old first ≡ x → NewestIs (newest_to symbols rights old first (suc i))
+        go (Some e) q = rw q (found e (candidate symbols₀ symbols rights first places few held stay i old e q))
+        go None q = rw q (r (none_either (no_candidate symbols₀ symbols rights first places few held stay i old q)))
 
   newest_by : (k : ℕ) → k ≤ places → NoneNew old test first places k → NewestIs (newest_to symbols rights old first k)
   unfolding newest_to
-  newest_by zero l h = record { last = λ q. absurd (false≢true q); none = λ q. h }
-  newest_by (suc i) l h = newest_step i l h (λ x. newest_by i (omega (arith, l)) (none_either i l h x))
+  newest_by zero l h = h
+  newest_by (suc i) l h = newest_step i l h (newest_by i (omega (arith, l)))
 
   pub newest_is : NewestIs (newest_to symbols rights old first places)
   newest_is = newest_by places (omega arith) (λ j e a b. absurd (omega (arith, a, b)))

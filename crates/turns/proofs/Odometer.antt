@@ -161,10 +161,10 @@ module _ (test : ℕ → ℕ → Bool) (n places : ℕ) where
       (λ j a b. rw (get_or-set_other picked i j e 0 (λ z. omega (arith, z, a))) (h j a b))
 
   -- place i has none: what is left is what the places before have
-  pub goes_back : (i : ℕ) (picked : List ℕ) (v : ℕ) → (e : ℕ) → n ≤ e → suc (get_or picked i 0) ≤ n
+  pub goes_back : (i : ℕ) (picked : List ℕ) (v : ℕ) → suc (get_or picked i 0) ≤ n
       → ((j : ℕ) → suc (get_or picked i 0) ≤ j → j < n → test i j ≡ false)
       → after (suc i) picked ≡ after i (set picked i v)
-  goes_back i picked v e l m none =
+  goes_back i picked v m none =
       after_more i picked
       ∙ ap (λ (c : List (List ℕ)). c ++ after i picked)
       (part_over i (suc (get_or picked i 0)) n picked m (omega arith) none ∙ part_end i n picked (omega arith))

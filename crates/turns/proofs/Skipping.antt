@@ -8,7 +8,7 @@ use native.Mathlib.Omega.{arith}
 use lib.ListN.{length, get_or, set, take, length-set}
 use lib.Seq.{get_or-set_other}
 use borrow.Author.Tests.{lt-ltb}
-use Rattle.numbers.specs.Lists.{both, up_from, every, keep}
+use Rattle.numbers.specs.Lists.{up_from, keep}
 use Rattle.numbers.proofs.Keeping.{up_from_split, keep_append}
 use Rattle.rules.specs.Passes.{prefixed, combinations}
 use Rattle.turns.specs.Combos.{under, candidates_from, combos_of, combos_from, part_from, behind, First}
@@ -68,7 +68,6 @@ module _ (old : ℕ) where
   Old x = x < old
 
   all_below_lem : (c : List ℕ) → All Old c → all_below old c ≡ true
-  unfolding every both
   all_below_lem [] h = refl
   all_below_lem (x ∷ c) h = rw (lt-ltb x old h.0) (all_below_lem c h.1)
 

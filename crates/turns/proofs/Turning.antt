@@ -5,16 +5,17 @@ use mathlib.Core.Bool.{Bool, true, false, false≢true}
 use mathlib.Core.List.{List, [], ◌∷◌, ◌++◌, map}
 use Prim.Native.Nat.{ℕ, zero, suc, ◌-◌, ◌≤◌, ◌<◌}
 use native.Mathlib.Omega.{arith}
-use lib.Dec.{eqb, ltb}
+use lib.Dec.{eqb}
 use lib.ListN.{length, get_or, set, take, replicate, length-take, length-set, length-map}
 use lib.Seq.{set-append_left, take-set-lt, get_or-set_same, get_or-set_other}
-use borrow.Author.Tests.{eq-eqb, ne_eqb, eqb-true, eqb-false, ltb-true, ltb-false}
+use borrow.Author.Tests.{eq-eqb, ne_eqb, eqb-true, eqb-false}
+use Rattle.std.specs.Prelude.{Option, None, Some}
 use Rattle.numbers.specs.Lists.{up_from}
 use Rattle.numbers.proofs.Ranges.{length_up_from, at_below}
 use Rattle.rules.specs.Passes.{seven, prefixed, combinations}
 use Rattle.rules.proofs.Stored.{length_seven}
 use Rattle.candidates.specs.Next.{next_of}
-use Rattle.candidates.proofs.Seeking.{next_of_lem}
+use Rattle.candidates.proofs.Seeking.{next_some, next_none}
 use Rattle.turns.specs.Combos.{candidates_from, combos_of, behind, First}
 use Rattle.turns.specs.Moves.{Moved, moved, firsts_to, moved_to}
 use Rattle.turns.specs.Turning.{of_symbol, Numbers, Firsts, MovesAt, Begins, GoesOn}
@@ -78,19 +79,26 @@ module _ (symbols₀ symbols rights : List ℕ) (first places : ℕ) (few : plac
   -- the next candidate, by the test
   pub record Candidate (i from e : ℕ) : Type 0 where
     pub after_it : from ≤ e
-    pub within : e ≤ first
+    pub within : e < first
     pub none : (j : ℕ) → from ≤ j → j < e → test i j ≡ false
-    pub hit : e < first → test i e ≡ true
+    pub hit : test i e ≡ true
 
-  pub candidate : (i from : ℕ) → from ≤ first → Candidate i from (next_of symbols (get_or rights i 0) from first)
-  candidate i from l =
-      let w = next_of_lem symbols (get_or rights i 0) from first l held in
+  abbrev pub NoCandidate : ℕ → ℕ → Type 0
+  NoCandidate i from = (j : ℕ) → from ≤ j → j < first → test i j ≡ false
+
+  pub candidate : (i from e : ℕ) → next_of symbols (get_or rights i 0) from first ≡ Some e → Candidate i from e
+  candidate i from e q =
+      let w = next_some symbols (get_or rights i 0) from first e q in
       record {
         after_it = w.after;
         within = w.within;
         none = λ j a b. ne_eqb _ _ (λ h. w.none j a b (stay j (omega (arith, b, w.within)) ∙ h));
-        hit = λ h. eq-eqb _ _ (sym (stay _ h) ∙ w.found h);
+        hit = eq-eqb _ _ (sym (stay _ w.within) ∙ w.found);
       }
+
+  pub no_candidate : (i from : ℕ) → next_of symbols (get_or rights i 0) from first ≡ None → NoCandidate i from
+  no_candidate i from q j a b =
+      ne_eqb _ _ (λ h. next_none symbols (get_or rights i 0) from first held q j a b (stay j b ∙ h))
 
   -- ---- the next combination
   module _ (firsts : List ℕ) (begun : Numbers places first firsts) (all : Firsts test first places firsts) where
@@ -104,17 +112,11 @@ module _ (symbols₀ symbols rights : List ℕ) (first places : ℕ) (few : plac
     -- place i moves on, or begins again
     module _ (i : ℕ) (xs : List ℕ) (low : i < places) (h : Numbers places first xs)
         (f : (j : ℕ) → suc i ≤ j → j < places → First test first places j (get_or xs j 0)) where
-      abbrev e : ℕ
-      e = next_of symbols (get_or rights i 0) (suc (get_or xs i 0)) first
-
       abbrev again : List ℕ
       again = set xs i (get_or firsts i 0)
 
       long : length xs ≡ 7
       long = numbers_long places first xs few h
-
-      w : Candidate i (suc (get_or xs i 0)) e
-      w = candidate i (suc (get_or xs i 0)) (h.below i low)
 
       again_numbers : Numbers places first again
       again_numbers = numbers_set places first xs i (get_or firsts i 0) few low (begun.below i low) h
@@ -126,11 +128,11 @@ module _ (symbols₀ symbols rights : List ℕ) (first places : ℕ) (few : plac
           rw k (all j b))
           (λ z. f j (omega (arith, z, a)) b)
 
-      on : e < first → Goes (suc i) xs (moved true (set xs i e))
-      on x =
+      on : (e : ℕ) → Candidate i (suc (get_or xs i 0)) e → Goes (suc i) xs (moved true (set xs i e))
+      on e w =
           record {
-            numbers = numbers_set places first xs i e few low x h;
-            next = λ y. moves_on test first places i e xs low (omega (arith, few, long)) w.after_it x (w.hit x) w.none f;
+            numbers = numbers_set places first xs i e few low w.within h;
+            next = λ y. moves_on test first places i e xs low (omega (arith, few, long)) w.after_it w.within w.hit w.none f;
             none = λ y. absurd (false≢true (sym y));
             moved_at =
                 λ y. record {
@@ -139,15 +141,15 @@ module _ (symbols₀ symbols rights : List ℕ) (first places : ℕ) (few : plac
                   within = omega arith;
                   before = λ j m. get_or-set_other xs i j e 0 (λ z. omega (arith, z, m));
                   further = rw (get_or-set_same xs i e 0 (omega (arith, low, few, long))) w.after_it;
-                  hit = rw (get_or-set_same xs i e 0 (omega (arith, low, few, long))) (w.hit x);
+                  hit = rw (get_or-set_same xs i e 0 (omega (arith, low, few, long))) w.hit;
                   again =
                       λ j a b. rw (get_or-set_other xs i j e 0 (λ z. omega (arith, z, a))) (f j a b);
                 };
           }
 
-      back : first ≤ e → (m : Moved) → Goes i again m → Goes (suc i) xs m
-      back x m g =
-          let b = goes_back test first places i xs (get_or firsts i 0) e x (h.below i low) (λ j a b. w.none j a (omega (arith, b, x))) in
+      back : NoCandidate i (suc (get_or xs i 0)) → (m : Moved) → Goes i again m → Goes (suc i) xs m
+      back none m g =
+          let b = goes_back test first places i xs (get_or firsts i 0) (h.below i low) none in
           record {
             numbers = g.numbers;
             next = λ y. b ∙ g.next y;
@@ -167,11 +169,12 @@ module _ (symbols₀ symbols rights : List ℕ) (first places : ℕ) (few : plac
 
       step : Goes i again (moved_to symbols rights firsts first i again) → Goes (suc i) xs (moved_to symbols rights firsts first (suc i) xs)
       unfolding moved_to
-      step g = go (ltb e first) refl
+      step g = go (next_of symbols (get_or rights i 0) (suc (get_or xs i 0)) first) refl
         where
-          go : (b : Bool) → ltb e first ≡ b → Goes (suc i) xs (moved_to symbols rights firsts first (suc i) xs)
-          go true q = rw q (on (ltb-true e first q))
-          go false q = rw q (back (ltb-false e first q) _ g)
+          go : (r : Option ℕ) → next_of symbols (get_or rights i 0) (suc (get_or xs i 0)) first ≡ r
+              → Goes (suc i) xs (moved_to symbols rights firsts first (suc i) xs)
+          go (Some e) q = rw q (on e (candidate i (suc (get_or xs i 0)) e q))
+          go None q = rw q (back (no_candidate i (suc (get_or xs i 0)) q) _ g)
 
     goes : (k : ℕ) (xs : List ℕ) → k ≤ places → Numbers places first xs
         → ((j : ℕ) → k ≤ j → j < places → First test first places j (get_or xs j 0)) → Goes k xs (moved_to symbols rights firsts first k xs)
@@ -203,52 +206,45 @@ module _ (symbols₀ symbols rights : List ℕ) (first places : ℕ) (few : plac
   combinations_none (xs ∷ xss) zero l h = rw h
   combinations_none (xs ∷ xss) (suc j) l h = rw (combinations_none xss j (omega arith) h, prefixed_none xs)
 
-  no_candidate : (i : ℕ) → i < places → ((j : ℕ) → j < first → test i j ≡ false) → combos_of test first places 0 ≡ []
+  none_begins : (i : ℕ) → i < places → NoCandidate i 0 → combos_of test first places 0 ≡ []
   unfolding combos_of
-  no_candidate i l h =
+  none_begins i l h =
       combinations_none (map (λ j. candidates_from test first places j 0) (up_from 0 (places - 0))) i
       (omega (arith, l, length-map (up_from 0 (places - 0)) (λ j. candidates_from test first places j 0), length_up_from 0 (places - 0)))
-      (at_below (λ j. candidates_from test first places j 0) [] (places - 0) i (omega (arith, l)) ∙ keep_over (test i) 0 (first - 0) (λ j a b. h j (omega (arith, b))))
+      (at_below (λ j. candidates_from test first places j 0) [] (places - 0) i (omega (arith, l)) ∙ keep_over (test i) 0 (first - 0) (λ j a b. h j a (omega (arith, b))))
 
   -- place i has a first candidate, or none
   module _ (i : ℕ) (xs : List ℕ) (low : i < places) (slots : xs ≡ seven (take places xs))
       (f : (j : ℕ) → suc i ≤ j → j < places → First test first places j (get_or xs j 0)) where
-    abbrev least : ℕ
-    least = next_of symbols (get_or rights i 0) 0 first
-
-    abbrev with_least : List ℕ
-    with_least = set xs i least
-
-    known : Candidate i 0 least
-    known = candidate i 0 (omega arith)
+    abbrev with_least : ℕ → List ℕ
+    with_least e = set xs i e
 
     seven_slots : length xs ≡ 7
     seven_slots = ap length slots ∙ length_seven (take places xs) (omega (arith, length-take places xs, few))
 
-    least_slots : with_least ≡ seven (take places with_least)
-    least_slots = slots_set places xs i least low (omega (arith, seven_slots, few)) slots
+    least_slots : (e : ℕ) → with_least e ≡ seven (take places (with_least e))
+    least_slots e = slots_set places xs i e low (omega (arith, seven_slots, few)) slots
 
-    least_firsts : least < first → (j : ℕ) → i ≤ j → j < places → First test first places j (get_or with_least j 0)
-    least_firsts x j a b =
-        set_at (First test first places j) xs i j least (omega (arith, low, few, seven_slots))
+    least_firsts : (e : ℕ) → Candidate i 0 e → (j : ℕ) → i ≤ j → j < places → First test first places j (get_or (with_least e) j 0)
+    least_firsts e w j a b =
+        set_at (First test first places j) xs i j e (omega (arith, low, few, seven_slots))
         (λ z. let k : i ≡ j = omega (arith, z) in
-        rw (← k) (record { low = x; hit = known.hit x; none = λ m y. known.none m (omega arith) y }))
+        rw (← k) (record { low = w.within; hit = w.hit; none = λ m y. w.none m (omega arith) y }))
         (λ z. f j (omega (arith, z, a)) b)
 
-    begin_step : (least < first → Begins test first places (firsts_to symbols rights first i with_least))
+    begin_step : ((e : ℕ) → Candidate i 0 e → Begins test first places (firsts_to symbols rights first i (with_least e)))
         → Begins test first places (firsts_to symbols rights first (suc i) xs)
     unfolding firsts_to
-    begin_step g = go (ltb least first) refl
+    begin_step g = go (next_of symbols (get_or rights i 0) 0 first) refl
       where
-        go : (b : Bool) → ltb least first ≡ b → Begins test first places (firsts_to symbols rights first (suc i) xs)
-        go true q = rw q (g (ltb-true least first q))
-        go false q =
-            let x = ltb-false least first q in
+        go : (r : Option ℕ) → next_of symbols (get_or rights i 0) 0 first ≡ r → Begins test first places (firsts_to symbols rights first (suc i) xs)
+        go (Some e) q = rw q (g e (candidate i 0 e q))
+        go None q =
             rw q
             (record {
               numbers = λ y. absurd (false≢true y);
               firsts = λ y. absurd (false≢true y);
-              none = λ y. no_candidate i low (λ j a. known.none j (omega arith) (omega (arith, a, x)));
+              none = λ y. none_begins i low (no_candidate i 0 q);
             })
 
   begin : (k : ℕ) (xs : List ℕ) → k ≤ places → xs ≡ seven (take places xs)
@@ -261,7 +257,7 @@ module _ (symbols₀ symbols rights : List ℕ) (first places : ℕ) (few : plac
         none = λ q. absurd (false≢true (sym q));
       }
   begin (suc i) xs l h f =
-      begin_step i xs l h f (λ x. begin i (with_least i xs l h f) (omega (arith, l)) (least_slots i xs l h f) (least_firsts i xs l h f x))
+      begin_step i xs l h f (λ e w. begin i (with_least i xs l h f e) (omega (arith, l)) (least_slots i xs l h f e) (least_firsts i xs l h f e w))
 
   pub begins : Begins test first places (firsts_to symbols rights first places (replicate 7 0))
   begins = begin places (replicate 7 0) (omega arith) (zeros places few) (λ j a b. absurd (omega (arith, a, b)))

@@ -7,8 +7,4 @@ use Rattle.candidates.specs.Next.{first_up, next_of}
 use Rattle.candidates.proofs.next_candidate.Given as goal
 
 abbrev pub invariant-loop-e : goal.invariant-loop-e
-invariant-loop-e l =
-    first_up (λ i. eqb (get_or l.symbols i 0) l.symbol) l.e (l.end - l.e) l.first ≡ next_of l.symbols l.symbol l.from l.first
-
-abbrev pub decreases-loop-e : goal.decreases-loop-e
-decreases-loop-e l = l.end - l.e
+invariant-loop-e l = first_up (λ i. eqb (get_or l.symbols i 0) l.symbol) l.e (l.e-end - l.e) ≡ next_of l.symbols l.symbol l.from l.first
