@@ -1,7 +1,7 @@
 -- The turn without the combinations whose entries are all old: it begins at the first of the others, and goes on from one to the next.
 -- Assumes nothing.
 use mathlib.Core.Path.{◌≡◌, refl, sym, ap, ◌∙◌}
-use mathlib.Core.Bool.{Bool, ◌&&◌, true, false, false≢true}
+use mathlib.Core.Bool.{Bool, true, false, false≢true}
 use mathlib.Core.List.{List, [], ◌∷◌}
 use mathlib.Core.Logic.{◌⊎◌, inl, inr, ⊎_elim}
 use Prim.Native.Nat.{ℕ, zero, suc, ◌≤◌, ◌<◌}
@@ -11,8 +11,12 @@ use native.Mathlib.Omega.{arith}
 use lib.Dec.{ltb}
 use lib.ListN.{length, get_or, set, take, length-set, length-take}
 use lib.Seq.{get_or-take, get_or-set_same}
-use borrow.Author.Tests.{lt-ltb, le-ltb}
+use borrow.Author.Tests.{ltb-true, le-ltb}
 use Rattle.std.specs.Prelude.{Option, None, Some, MatchOption}
+use Rattle.std.specs.List.{All}
+use Rattle.std.proofs.lemmas.List.Elements.{All-from_get_or}
+use Rattle.std.proofs.lemmas.List.Folds.{list_all_at}
+use Rattle.std.proofs.lemmas.List.Sums.{AllPass-from_list_all}
 use Rattle.numbers.specs.Lists.{keep}
 use Rattle.candidates.specs.Next.{next_of}
 use Rattle.turns.specs.declared.Newest.{Newest}
@@ -22,7 +26,7 @@ use Rattle.turns.specs.Skips.{all_below, with_new, newest_to, skipped}
 use Rattle.turns.specs.Turning.{of_symbol, Numbers, Firsts, GoesOn}
 use Rattle.turns.proofs.Odometer.{begins}
 use Rattle.turns.proofs.Turning.{numbers_long, numbers_set, set_at, Candidate, NoCandidate, candidate, no_candidate}
-use Rattle.turns.proofs.Skipping.{All, one_new, skips, NoneNew}
+use Rattle.turns.proofs.Skipping.{all_below_lem, one_new, skips, NoneNew}
 
 apart : (a b : ℕ) → (a < b) ⊎ (b ≤ a)
 apart a b = go (dec_lt a b)
@@ -33,33 +37,23 @@ apart a b = go (dec_lt a b)
 
 -- ---- all below, number by number
 
-module _ (old : ℕ) where
+module _ (old : ℕ) (c : List ℕ) where
   -- one that is not
-  not_all : (c : List ℕ) (k : ℕ) → k < length c → old ≤ get_or c k 0 → all_below old c ≡ false
-  not_all [] k l h = absurd (omega arith)
-  not_all (x ∷ c) zero l h = rw (le-ltb x old h)
-  not_all (x ∷ c) (suc k) l h = go (ltb x old) (not_all c k (omega arith) h)
-    where
-      go : (b : Bool) → all_below old c ≡ false → (b && all_below old c) ≡ false
-      go true r = r
-      go false r = refl
+  not_all : (k : ℕ) → k < length c → old ≤ get_or c k 0 → all_below old c ≡ false
+  not_all k l h = list_all_at (λ x. ltb x old) c k 0 l (le-ltb (get_or c k 0) old h)
 
   -- each is
-  each_below : (c : List ℕ) (k : ℕ) → all_below old c ≡ true → k < length c → get_or c k 0 < old
-  each_below c k h l = go (dec_lt (get_or c k 0) old)
-    where
-      go : Dec (get_or c k 0 < old) → get_or c k 0 < old
-      go (yes m) = m
-      go (no n) = absurd (false≢true (sym (not_all c k l (omega arith)) ∙ h))
+  each_below : (k : ℕ) → all_below old c ≡ true → k < length c → get_or c k 0 < old
+  each_below k h l = ltb-true _ _ (AllPass-from_list_all (λ x. ltb x old) c h k 0 l)
 
-  all_of : (c : List ℕ) → ((k : ℕ) → k < length c → get_or c k 0 < old) → all_below old c ≡ true
-  all_of [] h = refl
-  all_of (x ∷ c) h = rw (lt-ltb x old (h 0 (omega arith))) (all_of c (λ k l. h (suc k) (omega arith)))
+  all_of : ((k : ℕ) → k < length c → get_or c k 0 < old) → all_below old c ≡ true
+  all_of h = all_below_lem old c (All-from_get_or (λ x. x < old) c 0 h)
 
-  all_taken : (xs : List ℕ) (i : ℕ) → ((j : ℕ) → j < i → j < length xs → get_or xs j 0 < old) → All (λ x. x < old) (take i xs)
-  all_taken xs zero h = tt
-  all_taken [] (suc i) h = tt
-  all_taken (x ∷ xs) (suc i) h = (h 0 (omega arith) (omega arith), all_taken xs i (λ j l m. h (suc j) (omega arith) (omega arith)))
+  all_taken : (i : ℕ) → ((j : ℕ) → j < i → j < length c → get_or c j 0 < old) → All (λ x. x < old) (take i c)
+  all_taken i h =
+      All-from_get_or (λ x. x < old) (take i c) 0 (λ j l.
+      let k : j < i = omega (arith, l, length-take i c) in
+      rw (get_or-take i c j 0 k) (h j k (omega (arith, l, length-take i c))))
 
 module _ (symbols₀ symbols rights : List ℕ) (first places old : ℕ) (few : places ≤ 7) (held : first ≤ length symbols)
     (stay : (e : ℕ) → e < first → get_or symbols e 0 ≡ get_or symbols₀ e 0) (known : old ≤ first) where
@@ -110,7 +104,8 @@ module _ (symbols₀ symbols rights : List ℕ) (first places old : ℕ) (few : 
         (λ l. h j m (omega (arith, l)) b c t)
         (eq-or-lt_of_le a)
 
-    newest_step : (NoneNew old test first places i → NewestIs (newest_to symbols rights old first i)) → NewestIs (newest_to symbols rights old first (suc i))
+    newest_step : (NoneNew old test first places i → NewestIs (newest_to symbols rights old first i))
+        → NewestIs (newest_to symbols rights old first (suc i))
     unfolding newest_to
     newest_step r = go (next_of symbols (get_or rights i 0) old first) refl
       where
@@ -191,7 +186,8 @@ module _ (symbols₀ symbols rights : List ℕ) (first places old : ℕ) (few : 
         Lively ys × (with_new old (combos_of test first places 0) ≡ take places ys ∷ with_new old (after ys))
     begins_new firsts numbers all =
         let w = leads_on firsts numbers (λ j l. (all j l).hit) (λ olds j a b. all j b) in
-        (w.lively, ap (with_new old) (begins test first places firsts (omega (arith, few, numbers_long places first firsts few numbers)) all) ∙ w.leads)
+        let long : places ≤ length firsts = omega (arith, few, numbers_long places first firsts few numbers) in
+        (w.lively, ap (with_new old) (begins test first places firsts long all) ∙ w.leads)
 
     -- and how it goes on
     module _ (firsts picked : List ℕ) (m : Moved) (lively : Lively picked) (goes : GoesOn test first places picked m) where

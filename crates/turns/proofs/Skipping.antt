@@ -5,9 +5,13 @@ use mathlib.Core.Bool.{Bool, true, false, not, cond}
 use mathlib.Core.List.{List, [], ◌∷◌, ◌++◌, map, append_assoc}
 use Prim.Native.Nat.{ℕ, zero, suc, ◌+◌, ◌-◌, ◌≤◌, ◌<◌}
 use native.Mathlib.Omega.{arith}
+use lib.Dec.{ltb}
 use lib.ListN.{length, get_or, set, take, length-set}
 use lib.Seq.{get_or-set_other}
 use borrow.Author.Tests.{lt-ltb}
+use Rattle.std.specs.List.{All}
+use Rattle.std.proofs.lemmas.List.Elements.{All-nil, All-cons, All-head, All-tail, All-append, All-map, All-weaker}
+use Rattle.std.proofs.lemmas.List.Sums.{list_all-from_AllPass}
 use Rattle.numbers.specs.Lists.{up_from, keep}
 use Rattle.numbers.proofs.Keeping.{up_from_split, keep_append}
 use Rattle.rules.specs.Passes.{prefixed, combinations}
@@ -17,49 +21,40 @@ use Rattle.turns.proofs.Odometer.{under_append, prefixed_append, at_firsts, all_
 
 -- ---- lists of which each element is such
 
-module _ {A : Type 0} (P : A → Type 0) where
-  abbrev pub All : List A → Type 0
-  All [] = Unit {0}
-  All (x ∷ xs) = P x × All xs
-
-  all_append : (a b : List A) → All a → All b → All (a ++ b)
-  all_append [] b h i = i
-  all_append (x ∷ a) b h i = (h.0, all_append a b h.1 i)
-
 pub all_keep : (P : ℕ → Type 0) (t : ℕ → Bool) (i m : ℕ) → ((j : ℕ) → i ≤ j → j < i + m → t j ≡ true → P j) → All P (keep t (up_from i m))
 unfolding keep up_from
-all_keep P t i zero h = tt
+all_keep P t i zero h = All-nil P
 all_keep P t i (suc m) h = go (t i) refl (all_keep P t (suc i) m (λ j a b. h j (omega arith) (omega arith)))
   where
     go : (b : Bool) → t i ≡ b → All P (keep t (up_from (suc i) m)) → All P (cond (t i) (i ∷ keep t (up_from (suc i) m)) (keep t (up_from (suc i) m)))
-    go true q r = rw q (h i (omega arith) (omega arith) q, r)
+    go true q r = rw q (All-cons P i _ (h i (omega arith) (omega arith) q) r)
     go false q r = rw q r
 
 all_places : {A : Type 0} (P : A → Type 0) (f : ℕ → A) (i m : ℕ) → ((j : ℕ) → i ≤ j → j < i + m → P (f j)) → All P (map f (up_from i m))
 unfolding up_from
-all_places P f i zero h = tt
-all_places P f i (suc m) h = (h i (omega arith) (omega arith), all_places P f (suc i) m (λ j a b. h j (omega arith) (omega arith)))
+all_places P f i zero h = All-nil P
+all_places P f i (suc m) h =
+    All-cons P (f i) _ (h i (omega arith) (omega arith)) (all_places P f (suc i) m (λ j a b. h j (omega arith) (omega arith)))
 
 module _ (P : ℕ → Type 0) where
-  all_before : (x : ℕ) → P x → (cs : List (List ℕ)) → All (All P) cs → All (All P) (map (λ c. x ∷ c) cs)
-  all_before x p [] h = tt
-  all_before x p (c ∷ cs) h = ((p, h.0), all_before x p cs h.1)
-
   all_prefixed : (xs : List ℕ) (cs : List (List ℕ)) → All P xs → All (All P) cs → All (All P) (prefixed xs cs)
   unfolding prefixed
-  all_prefixed [] cs h i = tt
+  all_prefixed [] cs h i = All-nil (All P)
   all_prefixed (x ∷ xs) cs h i =
-      all_append (All P) (map (λ c. x ∷ c) cs) (prefixed xs cs) (all_before x h.0 cs i) (all_prefixed xs cs h.1 i)
+      All-append (All P) (map (λ c. x ∷ c) cs) (prefixed xs cs)
+      (All-map (All P) (λ c. x ∷ c) cs (All-weaker (All P) (λ c. All P (x ∷ c)) (λ c p. All-cons P x c (All-head P x xs h) p) cs i))
+      (all_prefixed xs cs (All-tail P x xs h) i)
 
   all_combinations : (xss : List (List ℕ)) → All (All P) xss → All (All P) (combinations xss)
   unfolding combinations
-  all_combinations [] h = (tt, tt)
-  all_combinations (xs ∷ xss) h = all_prefixed xs (combinations xss) h.0 (all_combinations xss h.1)
+  all_combinations [] h = All-cons (All P) [] [] (All-nil P) (All-nil (All P))
+  all_combinations (xs ∷ xss) h =
+      all_prefixed xs (combinations xss) (All-head (All P) xs xss h) (all_combinations xss (All-tail (All P) xs xss h))
 
   all_under : (chosen : List ℕ) → All P chosen → (cs : List (List ℕ)) → All (All P) cs → All (All P) (under chosen cs)
   unfolding under
-  all_under chosen p [] h = tt
-  all_under chosen p (c ∷ cs) h = (all_append P chosen c p h.0, all_under chosen p cs h.1)
+  all_under chosen p cs h =
+      All-map (All P) (λ c. chosen ++ c) cs (All-weaker (All P) (λ c. All P (chosen ++ c)) (λ c q. All-append P chosen c p q) cs h)
 
 -- ---- what is below a number
 
@@ -67,14 +62,13 @@ module _ (old : ℕ) where
   abbrev Old : ℕ → Type 0
   Old x = x < old
 
-  all_below_lem : (c : List ℕ) → All Old c → all_below old c ≡ true
-  all_below_lem [] h = refl
-  all_below_lem (x ∷ c) h = rw (lt-ltb x old h.0) (all_below_lem c h.1)
+  pub all_below_lem : (c : List ℕ) → All Old c → all_below old c ≡ true
+  all_below_lem c h = list_all-from_AllPass (λ x. ltb x old) c (All-weaker Old (λ x. ltb x old ≡ true) (λ x l. lt-ltb x old l) c h)
 
   pub none_new : (cs : List (List ℕ)) → All (All Old) cs → with_new old cs ≡ []
   unfolding keep
   none_new [] h = refl
-  none_new (c ∷ cs) h = rw (all_below_lem c h.0) (none_new cs h.1)
+  none_new (c ∷ cs) h = rw (all_below_lem c (All-head (All Old) c cs h)) (none_new cs (All-tail (All Old) c cs h))
 
   pub one_new : (c : List ℕ) (cs : List (List ℕ)) → all_below old c ≡ false → with_new old (c ∷ cs) ≡ c ∷ with_new old cs
   unfolding keep

@@ -3,13 +3,14 @@
 use mathlib.Core.Path.{◌≡◌, refl, sym, ap, ◌∙◌}
 use mathlib.Core.Bool.{Bool, true, false, false≢true}
 use mathlib.Core.List.{List, [], ◌∷◌, ◌++◌, map}
-use Prim.Native.Nat.{ℕ, zero, suc, ◌-◌, ◌≤◌, ◌<◌}
+use Prim.Native.Nat.{ℕ, zero, suc, ◌+◌, ◌-◌, ◌≤◌, ◌<◌}
 use native.Mathlib.Omega.{arith}
 use lib.Dec.{eqb}
-use lib.ListN.{length, get_or, set, take, replicate, length-take, length-set, length-map}
+use lib.ListN.{length, get_or, set, take, replicate, length-take, length-set, length-map, length-replicate}
 use lib.Seq.{set-append_left, take-set-lt, get_or-set_same, get_or-set_other}
 use borrow.Author.Tests.{eq-eqb, ne_eqb, eqb-true, eqb-false}
 use Rattle.std.specs.Prelude.{Option, None, Some}
+use Rattle.std.proofs.lemmas.List.{take-replicate, replicate-append-replicate}
 use Rattle.numbers.specs.Lists.{up_from}
 use Rattle.numbers.proofs.Ranges.{length_up_from, at_below}
 use Rattle.rules.specs.Passes.{seven, prefixed, combinations}
@@ -39,18 +40,16 @@ slots_set places xs i e l m h =
 
 zeros : (n : ℕ) → n ≤ 7 → replicate 7 0 ≡ seven (take n (replicate 7 0))
 unfolding seven
-zeros zero l = refl
-zeros (suc zero) l = refl
-zeros (suc (suc zero)) l = refl
-zeros (suc (suc (suc zero))) l = refl
-zeros (suc (suc (suc (suc zero)))) l = refl
-zeros (suc (suc (suc (suc (suc zero))))) l = refl
-zeros (suc (suc (suc (suc (suc (suc zero)))))) l = refl
-zeros (suc (suc (suc (suc (suc (suc (suc zero))))))) l = refl
-zeros (suc (suc (suc (suc (suc (suc (suc (suc n)))))))) l = absurd (omega arith)
+zeros n l =
+    let e : n + (7 - n) ≡ 7 = omega arith in
+    sym (ap seven (take-replicate n 7 0 l)
+    ∙ ap (λ (j : ℕ). replicate n 0 ++ replicate (7 - j) 0) (length-replicate n 0)
+    ∙ replicate-append-replicate n (7 - n) 0
+    ∙ ap (λ (j : ℕ). replicate j 0) e)
 
 -- what stands at j where e is set at i
-pub set_at : (P : ℕ → Type 0) (xs : List ℕ) (i j e : ℕ) → i < length xs → (j ≡ i → P e) → ((j ≡ i → ⊥) → P (get_or xs j 0)) → P (get_or (set xs i e) j 0)
+pub set_at : (P : ℕ → Type 0) (xs : List ℕ) (i j e : ℕ) → i < length xs → (j ≡ i → P e) → ((j ≡ i → ⊥) → P (get_or xs j 0))
+    → P (get_or (set xs i e) j 0)
 set_at P xs i j e l here other = go (eqb j i) refl
   where
     go : (b : Bool) → eqb j i ≡ b → P (get_or (set xs i e) j 0)
@@ -188,7 +187,8 @@ module _ (symbols₀ symbols rights : List ℕ) (first places : ℕ) (few : plac
         }
     goes (suc i) xs l h f = step i xs l h f (goes i (again i xs l h f) (omega (arith, l)) (again_numbers i xs l h f) (again_firsts i xs l h f))
 
-    pub goes_on : (picked : List ℕ) → Numbers places first picked → GoesOn test first places picked (moved_to symbols rights firsts first places picked)
+    pub goes_on : (picked : List ℕ) → Numbers places first picked
+        → GoesOn test first places picked (moved_to symbols rights firsts first places picked)
     goes_on picked h =
         let w = goes places picked (omega arith) h (λ j a b. absurd (omega (arith, a, b))) in
         record { numbers = w.numbers; next = w.next; none = w.none; moved_at = w.moved_at }
@@ -211,7 +211,8 @@ module _ (symbols₀ symbols rights : List ℕ) (first places : ℕ) (few : plac
   none_begins i l h =
       combinations_none (map (λ j. candidates_from test first places j 0) (up_from 0 (places - 0))) i
       (omega (arith, l, length-map (up_from 0 (places - 0)) (λ j. candidates_from test first places j 0), length_up_from 0 (places - 0)))
-      (at_below (λ j. candidates_from test first places j 0) [] (places - 0) i (omega (arith, l)) ∙ keep_over (test i) 0 (first - 0) (λ j a b. h j a (omega (arith, b))))
+      (at_below (λ j. candidates_from test first places j 0) [] (places - 0) i (omega (arith, l))
+      ∙ keep_over (test i) 0 (first - 0) (λ j a b. h j a (omega (arith, b))))
 
   -- place i has a first candidate, or none
   module _ (i : ℕ) (xs : List ℕ) (low : i < places) (slots : xs ≡ seven (take places xs))

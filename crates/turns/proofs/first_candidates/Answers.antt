@@ -15,7 +15,9 @@ overflow_cast-e c =
 pub loop-k-preserved : goal.loop-k-preserved
 loop-k-preserved c =
     let a = c.args in
-    let h = chosen a.symbols.now a.rights.now (c.loop-k.k - 1) 0 a.first _ _ _ _ _ c.at.ensures refl c.from-end.ensures c.next_candidate.ensures c.in-Some.is in
+    let h =
+    chosen a.symbols.now a.rights.now (c.loop-k.k - 1) 0 a.first _ _ _ _ _ c.at.ensures refl c.from-end.ensures c.next_candidate.ensures
+    c.in-Some.is in
     ap (firsts_to a.symbols.now a.rights.now a.first (c.loop-k.k - 1)) c.put.ensures
     ∙ sym (firsts_more a.symbols.now a.rights.now a.first c.loop-k.k c.loop-k.firsts c.loop-k-test.true _ h)
     ∙ c.loop-k.invariant
@@ -23,7 +25,9 @@ loop-k-preserved c =
 pub returns-in-None : goal.returns-in-None
 returns-in-None c =
     let a = c.args in
-    let h = chosen a.symbols.now a.rights.now (c.loop-k.k - 1) 0 a.first _ _ _ _ _ c.at.ensures refl c.from-end.ensures c.next_candidate.ensures c.in-None.is in
+    let h =
+    chosen a.symbols.now a.rights.now (c.loop-k.k - 1) 0 a.first _ _ _ _ _ c.at.ensures refl c.from-end.ensures c.next_candidate.ensures
+    c.in-None.is in
     found_is (sym (firsts_miss a.symbols.now a.rights.now a.first c.loop-k.k c.loop-k.firsts c.loop-k-test.true h) ∙ c.loop-k.invariant)
 
 pub returns : goal.returns

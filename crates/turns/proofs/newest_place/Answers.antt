@@ -15,14 +15,18 @@ pub returns-in-Some : goal.returns-in-Some
 returns-in-Some c =
     let a = c.args in
     let k = c.loop-place.place - 1 in
-    let h = chosen a.symbols.now a.rights.now k a.old a.first _ _ _ _ _ c.at.ensures c.from-from.ensures c.from-end.ensures c.next_candidate.ensures c.in-Some.is in
+    let h =
+    chosen a.symbols.now a.rights.now k a.old a.first _ _ _ _ _ c.at.ensures c.from-from.ensures c.from-end.ensures c.next_candidate.ensures
+    c.in-Some.is in
     sym (newest_hit a.symbols.now a.rights.now a.old a.first c.loop-place.place c.loop-place-test.true _ h) ∙ c.loop-place.invariant
 
 pub loop-place-preserved : goal.loop-place-preserved
 loop-place-preserved c =
     let a = c.args in
     let k = c.loop-place.place - 1 in
-    let h = chosen a.symbols.now a.rights.now k a.old a.first _ _ _ _ _ c.at.ensures c.from-from.ensures c.from-end.ensures c.next_candidate.ensures c.in_default.is in
+    let h =
+    chosen a.symbols.now a.rights.now k a.old a.first _ _ _ _ _ c.at.ensures c.from-from.ensures c.from-end.ensures c.next_candidate.ensures
+    c.in_default.is in
     sym (newest_back a.symbols.now a.rights.now a.old a.first c.loop-place.place c.loop-place-test.true h) ∙ c.loop-place.invariant
 
 pub returns : goal.returns

@@ -18,8 +18,8 @@ pub returns-in-Some : goal.returns-in-Some
 returns-in-Some c =
     let a = c.args in
     let h =
-    chosen a.symbols.now a.rights.now (c.loop-k.k - 1) _ a.first _ _ _ _ _ c.at-in-loop-k.ensures (add-one _ ∙ ap suc (c.from-from.ensures ∙ c.at.ensures))
-    c.from-end.ensures c.next_candidate.ensures c.in-Some.is in
+    chosen a.symbols.now a.rights.now (c.loop-k.k - 1) _ a.first _ _ _ _ _ c.at-in-loop-k.ensures
+    (add-one _ ∙ ap suc (c.from-from.ensures ∙ c.at.ensures)) c.from-end.ensures c.next_candidate.ensures c.in-Some.is in
     found_is
     (ap (moved true) c.put.ensures
     ∙ sym (moved_hit a.symbols.now a.rights.now a.first c.loop-k.k c.loop-k.picked a.firsts.now c.loop-k-test.true _ h)
@@ -29,8 +29,8 @@ pub loop-k-preserved : goal.loop-k-preserved
 loop-k-preserved c =
     let a = c.args in
     let h =
-    chosen a.symbols.now a.rights.now (c.loop-k.k - 1) _ a.first _ _ _ _ _ c.at-in-loop-k.ensures (add-one _ ∙ ap suc (c.from-from.ensures ∙ c.at.ensures))
-    c.from-end.ensures c.next_candidate.ensures c.in_default.is in
+    chosen a.symbols.now a.rights.now (c.loop-k.k - 1) _ a.first _ _ _ _ _ c.at-in-loop-k.ensures
+    (add-one _ ∙ ap suc (c.from-from.ensures ∙ c.at.ensures)) c.from-end.ensures c.next_candidate.ensures c.in_default.is in
     ap (moved_to a.symbols.now a.rights.now a.firsts.now a.first (c.loop-k.k - 1)) c.put-in-loop-k.ensures
     ∙ sym (moved_back a.symbols.now a.rights.now a.first c.loop-k.k c.loop-k.picked a.firsts.now c.loop-k-test.true h _ c.at-in-loop-k-2.ensures)
     ∙ c.loop-k.invariant
