@@ -1,10 +1,10 @@
 -- What the code does to a set with one symbol, the symbols of a list and one production. Assumes nothing.
-use mathlib.Core.Path.{◌≡◌, refl, sym, ap, ap₂, subst, ◌∙◌}
+use mathlib.Core.Path.{◌≡◌, refl, sym, ap, subst, ◌∙◌}
 use mathlib.Core.Bool.{Bool, true, false, not, ◌&&◌, true≢false}
 use mathlib.Core.List.Memᴰ
 use mathlib.Core.List.{List, [], ◌∷◌}
 use mathlib.Core.Logic.{⊎_elim}
-use Prim.Native.Nat.{ℕ, suc, ◌+◌, ◌*◌, ◌/◌, ◌%◌, ◌^◌, ◌≤◌, ◌<◌, min}
+use Prim.Native.Nat.{ℕ, ◌+◌, ◌*◌, ◌/◌, ◌%◌, ◌^◌, ◌≤◌, ◌<◌, min}
 use native.Mathlib.Numerals.{add-one}
 use native.Mathlib.Omega.{arith}
 use borrow.Author.Tests.{ltb-true, ltb-false}
@@ -19,7 +19,7 @@ use Rattle.grammar.specs.declared.Production.{Production}
 use Rattle.grammar.specs.Grammar.{rights}
 use Rattle.grammar.specs.Table.{production_in}
 use Rattle.grammar.proofs.Lookups.{rights_many, right_at}
-use Rattle.std.specs.List.{list_all, range_with_len}
+use Rattle.std.specs.List.{list_all}
 use Rattle.parts.specs.Sets.{Symbols, has, add, add_all, add_if}
 use Rattle.parts.specs.Rule.{takes_part}
 use Rattle.parts.proofs.Sets.{In, IsSet, in_low, add_past, add_set, add_here, add_more, all_set, all_here, all_more, if_same}
@@ -125,17 +125,6 @@ module _ {A : Type 0} (f : A → Bool) where
       go : (b : Bool) → list_all f xs ≡ every f xs → b && list_all f xs ≡ both b (every f xs)
       go true e = e
       go false e = refl
-
-module _ (f : ℕ → Bool) where
-  from_number : (g : ℕ → ℕ) (a : ℕ) (ss : List ℕ) → ((k : ℕ) → k < length ss → g (a + k) ≡ get_or ss k 0)
-      → list_all (λ k. f (g k)) (range_with_len a (length ss)) ≡ list_all f ss
-  from_number g a [] h = refl
-  from_number g a (s ∷ ss) h =
-      ap₂ (λ b c. b && c) (ap f (ap g (omega arith) ∙ h 0 (omega arith)))
-      (from_number g (a + 1) ss (λ k l. ap g (omega arith) ∙ h (suc k) (omega arith)))
-
-  pub every_by_number : (ss : List ℕ) → list_all (λ k. f (get_or ss k 0)) (range_with_len 0 (length ss)) ≡ every f ss
-  every_by_number ss = from_number (λ k. get_or ss k 0) 0 ss (λ k l. ap (λ j. get_or ss j 0) (omega arith)) ∙ every_is f ss
 
 -- ---- one production
 

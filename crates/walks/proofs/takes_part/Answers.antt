@@ -12,7 +12,9 @@ pub returns-then-has : goal.returns-then-has
 returns-then-has c =
     let T = c.args.treed.now.words in
     let p = c.args.production in
-    all_from_yields_List (has T) _ _ _ c.all.ensures.ran (YieldsList-from_take p.n (YieldsList-from_slice p.slots cc) (search rules)) (λ x b q k. search (rules, tests))
+    all_from_yields_List (has T) _ _ _ c.all.ensures.ran
+    (YieldsList-from_take p.n (YieldsList-from_slice p.slots cc) (search rules))
+    (λ x b q k. search (rules, tests))
     ∙ every_is (has T) (take p.n p.slots)
     ∙ takes_by T c.args.reached.now.words p (sym c.has.ensures ∙ c.if-has.true)
 

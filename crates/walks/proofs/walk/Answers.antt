@@ -43,8 +43,8 @@ loop-i-preserved g c =
 pub returns : goal.returns
 returns g c =
     let a = c.args in
-    let inv = c.loop-i.invariant in (
-      sym (walk_done (step (g.S.Step.test a.step.now) (g.S.Step.targets a.step.now)) a.table.now a.up c.loop-i.i c.loop-i.set.words _ inv.0 c.loop-i-test.false)
-          ∙ inv.2,
+    let inv = c.loop-i.invariant in
+    let f = step (g.S.Step.test a.step.now) (g.S.Step.targets a.step.now) in (
+      sym (walk_done f a.table.now a.up c.loop-i.i c.loop-i.set.words _ inv.0 c.loop-i-test.false) ∙ inv.2,
       inv.3,
     )

@@ -1,22 +1,29 @@
--- `walks::Record::all_in` meets its contract. Assumes nothing.
-use mathlib.Core.Path.{refl, ap, ◌∙◌}
-use Rattle.std.proofs.Common.{rules, tests}
-use Rattle.std.specs.List.{list_all, range_with_len}
-use Rattle.std.proofs.lemmas.Iterator.{YieldsList-from_range}
-use Rattle.std.proofs.lemmas.Iterator.Search.{all_from_yields_List}
+-- `walks::Record::all_in` meets its contract. The right symbols that are left, from k on, pass the test exactly if all of them do. Assumes nothing.
+use mathlib.Core.Path.{refl, sym, ap, ◌∙◌}
 use native.Mathlib.Omega.{arith}
-use lib.ListN.{get_or}
+use Rattle.numbers.proofs.Every.{passes_at, fails_at, passes_all}
 use Rattle.grammar.specs.Grammar.{rights}
 use Rattle.parts.specs.Sets.{has}
-use Rattle.walks.proofs.Steps.{every_by_number}
 use Rattle.walks.proofs.Record.all_in.Goals as goal
+
+pub loop-k-init : goal.loop-k-init
+loop-k-init c = refl
+
+pub returns-then-not-has : goal.returns-then-not-has
+returns-then-not-has c =
+    let A = c.args.set.now.words in
+    let f = ap (has A) (sym c.right.ensures) ∙ sym c.has.ensures ∙ c.if-not-has.true in
+    sym (fails_at (has A) (rights c.args.self.now) 0 c.loop-k.k (omega (arith, c.loop-k-test.true, c.count-k-end.ensures)) f)
+    ∙ c.loop-k.invariant
+
+pub loop-k-preserved : goal.loop-k-preserved
+loop-k-preserved c =
+    let A = c.args.set.now.words in
+    let f = ap (has A) (sym c.right.ensures) ∙ sym c.has.ensures ∙ c.if-not-has.false in
+    passes_at (has A) (rights c.args.self.now) 0 c.loop-k.k (omega (arith, c.loop-k-test.true, c.count-k-end.ensures)) f
+    ∙ c.loop-k.invariant
 
 pub returns : goal.returns
 returns c =
-    let ss = rights c.args.self.now in
-    let A = c.args.set.now.words in
-    all_from_yields_List (λ k. has A (get_or ss k 0)) _ _ _ c.all.ensures.ran
-    (YieldsList-from_range 0 c.count.result c.count.result refl (omega arith))
-    (λ x b q k. search (rules, tests))
-    ∙ ap (λ n. list_all (λ k. has A (get_or ss k 0)) (range_with_len 0 n)) c.count.ensures
-    ∙ every_by_number (has A) ss
+    sym (passes_all (has c.args.set.now.words) (rights c.args.self.now) 0 c.loop-k.k (omega (arith, c.loop-k-test.false, c.count-k-end.ensures)))
+    ∙ c.loop-k.invariant

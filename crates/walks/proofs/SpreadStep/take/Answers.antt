@@ -38,7 +38,9 @@ returns-else-adds c =
         | then-not-all_in w ↦ spread_no set.words p T.words (sym w.all_in-adds.ensures ∙ sym w.adds-is ∙ c.if-adds.false)
         | else-not-all_in w ↦
             elim c.if-has.branch [
-              | then-has v ↦ spread_there set.words p T.words set.is_set (sym v.all_in.ensures ∙ negated (sym v.value-is ∙ w.if-not-all_in.false))
+              | then-has v ↦
+                  spread_there set.words p T.words set.is_set
+                  (sym v.all_in.ensures ∙ negated (sym v.value-is ∙ w.if-not-all_in.false))
               | else-has v ↦ spread_left set.words p T.words (ap (has set.words) (sym c.left.ensures) ∙ sym v.if-has.ensures)
             ]
       ],
