@@ -85,15 +85,15 @@ fn combine(
 }
 
 // The task of a turn of a production, which has the number `number`.
+#[tactic(auto, unfolding(crate::specs::Follow::task_of))]
 fn task_of(number: usize, production: Production, room: usize) -> Task
     requires { number < 512 }
     ensures { result ≡ task_of number production room }
 {
-    let count = numbers::wide(production.n);
     Task {
         number: number as u16,
         symbol: production.left,
-        count,
+        count: usize::from(production.n),
         room,
     }
 }
@@ -116,7 +116,7 @@ fn turn(
 {
     let production = tables::production_of(table, number);
     let rights = production.slots;
-    let count = numbers::wide(production.n);
+    let count = usize::from(production.n);
     let first = run.stored as u16;
     let mut firsts = [0u16; SLOTS];
     if !turns::first_candidates(store.entries().symbols, &rights, count, first, &mut firsts) {
@@ -264,7 +264,7 @@ fn passes_over(table: &[u8], limit: u32, store: &mut Store<'_>) -> Ending
 {
     let room = store.entries().room();
     let header = tables::header_of(table);
-    let count = numbers::wide(header.productions);
+    let count = usize::from(header.productions);
     let part = TakingPart::of(table);
     passes(table, count, &part, store, room, limit)
 }

@@ -92,9 +92,6 @@ module _ {k : Task} {rights firsts edges picked : List ℕ} {r₀ r : Run} {σ�
           moved.next (sym found.more_is ∙ h)
           ∙ ap (λ (xs : List ℕ). take k.count xs ∷ after σ₀.symbols rights first k xs) (sym found.numbers_are)
 
-pub overflow_cast-first : goal.overflow_cast-first
-overflow_cast-first c = omega (arith, c.requires.0.roomy.stored, c.requires.0.roomy.small)
-
 pub loop-now-init : goal.loop-now-init
 loop-now-init c =
     let t = c.args.task in (

@@ -13,19 +13,12 @@ use Rattle.rules.specs.Test.{system_in}
 use Rattle.passes.specs.Follow.{Follows}
 use Rattle.steps.specs.Lent.{held}
 use Rattle.steps.proofs.Lending.{lent_same, lent_then}
-use Rattle.passes.proofs.Following.{kept_roomy}
 use Rattle.passes.proofs.Passing.{through, pass_start, pass_more, pass_stopped}
 use Rattle.passes.proofs.pass.Goals as goal
 
 pub loop-number-init : goal.loop-number-init
 loop-number-init c =
     (search rules, pass_start (system_in c.args.table.now) c.args.room _ _ c.args.run c.requires.2.stored, lent_same _)
-
-pub turn-requires : goal.turn-requires
-turn-requires c =
-    let a = c.args in
-    let l = c.loop-number in
-    (c.requires.0, omega arith, kept_roomy a.room _ a.run _ l.now l.invariant.1.kept c.requires.2)
 
 pub returns-in_err-now-clause-follows : goal.returns-in_err-now-clause-follows
 returns-in_err-now-clause-follows c =

@@ -55,11 +55,6 @@ module _ {W : System} {limit room begun : ℕ} {ps : List ℕ} {σ₀ σ : Slice
 pub loop-now-init : goal.loop-now-init
 loop-now-init c = (reached_start (system_in c.args.table.now) c.args.limit c.args.room _ _ _ refl refl, lent_same _)
 
-pub overflow_add-begun : goal.overflow_add-begun
-overflow_add-begun c =
-    let now = roomy c.requires.2 c.loop-now.invariant.0 in
-    omega (arith, c.loop-now.invariant.0.few, now.stored, now.small)
-
 pub pass-requires : goal.pass-requires
 pass-requires c = (c.requires.0, c.requires.1, roomy c.requires.2 c.loop-now.invariant.0)
 

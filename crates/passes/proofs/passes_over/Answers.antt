@@ -16,13 +16,13 @@ counted bs h n e f = f ∙ ap (λ (h : Header). h.productions) e
 
 pub passes-requires : goal.passes-requires
 passes-requires c =
-    (c.requires, counted c.args.table.now _ _ c.header_of-header.ensures c.wide-count.ensures, (c.room-room.ensures ∙ ap room_of c.entries.ensures))
+    (c.requires, counted c.args.table.now _ _ c.header_of-header.ensures c.from-count.ensures, (c.room-room.ensures ∙ ap room_of c.entries.ensures))
 
 pub returns-clause-tells : goal.returns-clause-tells
 returns-clause-tells c =
     let a = c.args in
     tells_same
     (passes_taken a.table.now a.limit _ _ c.of-part.result.treed.words _ (held a.store.now) c.requires
-    (counted a.table.now _ _ c.header_of-header.ensures c.wide-count.ensures) (c.room-room.ensures ∙ ap room_of c.entries.ensures) c.of-part.ensures.0
+    (counted a.table.now _ _ c.header_of-header.ensures c.from-count.ensures) (c.room-room.ensures ∙ ap room_of c.entries.ensures) c.of-part.ensures.0
     c.of-part.ensures.1)
     c.passes.ensures.tells

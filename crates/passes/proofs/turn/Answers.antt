@@ -86,16 +86,13 @@ told : (treed reached : List ℕ) (found asked : Production) (b : Bool) → foun
     → b ≡ takes_part treed reached asked
 told treed reached found asked b read e = e ∙ ap (takes_part treed reached) read
 
-pub overflow_cast-first : goal.overflow_cast-first
-overflow_cast-first c = omega (arith, c.requires.2.stored, c.requires.2.small)
-
 pub returns-then-not-first_candidates-clause-follows : goal.returns-then-not-first_candidates-clause-follows
 returns-then-not-first_candidates-clause-follows c =
     let a = c.args in
     let p = c.production_of-production in
     part_still (system_in a.table.now) a.room (λ i. takes_part a.part.now.treed.words a.part.now.reached.words (production (grammar_of a.table.now) i)) a.number _
     a.run c.requires.2.stored
-    (nothing a.table.now c.requires.0 a.number a.room _ a.run c.requires.2 p.result p.ensures c.wide-count.ensures
+    (nothing a.table.now c.requires.0 a.number a.room _ a.run c.requires.2 p.result p.ensures c.from-count.ensures
     (ap (λ (σ : Slices). σ.symbols) c.entries.ensures) c.first_candidates.ensures c.if-not-first_candidates.true)
 
 pub returns-then-not-has-clause-follows : goal.returns-then-not-has-clause-follows
@@ -120,9 +117,9 @@ combine-requires c =
       turn_ready a.table.now c.requires.0 a.number a.room _ a.run c.requires.2 k.result
           (k.ensures ∙ made a.table.now c.requires.0 a.number a.room _ a.run c.requires.2 p.result p.ensures) p.result.slots
           (slots_are a.table.now c.requires.0 a.number a.room _ a.run c.requires.2 p.result p.ensures),
-      numbers a.table.now c.requires.0 a.number a.room _ a.run c.requires.2 p.result p.ensures c.wide-count.ensures same looked some k.result
+      numbers a.table.now c.requires.0 a.number a.room _ a.run c.requires.2 p.result p.ensures c.from-count.ensures same looked some k.result
           k.ensures,
-      each a.table.now c.requires.0 a.number a.room _ a.run c.requires.2 p.result p.ensures c.wide-count.ensures same looked some k.result
+      each a.table.now c.requires.0 a.number a.room _ a.run c.requires.2 p.result p.ensures c.from-count.ensures same looked some k.result
           k.ensures,
     )
 
