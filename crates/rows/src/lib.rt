@@ -29,6 +29,7 @@ pub fn entry_at(entries: &[Entry], at: usize) -> Entry
 pub fn put_entry(entries: &mut [Entry], to: usize, e: Entry)
     ensures { entries.new ≡ set entries.old to e }
 {
+    // By index: after a write through `get_mut` no more of the row would be known than its length.
     if to < entries.len() {
         entries[to] = e;
     }

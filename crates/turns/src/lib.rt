@@ -16,6 +16,7 @@ fn at(numbers: &[u16], place: usize) -> u16
     numbers.get(place).copied().unwrap_or(0)
 }
 
+// Past the end nothing changes. By index: after a write through `get_mut` no more of the numbers would be known than how many they are.
 fn put(numbers: &mut [u16], place: usize, entry: u16)
     ensures { numbers.new ≡ set numbers.old place entry }
 {
