@@ -25,12 +25,13 @@ struct Line {
 
 impl Model for Line {
     ghost use Rattle.std.specs.Prelude.{List, ℕ, take, ◌≤◌};
+    ghost use Rattle.lines.specs.Buffer.{making_bytes};
 
     ghost Value = { List ℕ };
 
     ghost view = { λ l. take l.len l.bytes };
 
-    ghost invariant = { λ l. l.len ≤ 320 };
+    ghost invariant = { λ l. l.len ≤ making_bytes };
 }
 
 impl Line {
@@ -52,7 +53,7 @@ impl Line {
         self.len = end;
     }
 
-    // `write!` would print a number too, but for all that it promises it may fail.
+    // By hand, since `write!` may fail for all that it promises, with room or without.
     fn number(&mut self, tag: &[u8], n: u64)
         requires { length self.old + (length tag.now + 20) ≤ making_bytes }
         ensures text { self.new ≡ self.old ++ (tag.now ++ decimal n) }
