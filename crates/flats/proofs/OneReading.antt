@@ -11,8 +11,8 @@ use Rattle.flats.proofs.flat_report.Reads as report_reads
 pub one_reading_flat_check : OneOutcome 1 check_kinds.ps check_kinds.r check_reads.Post (λ κs r s. s.1.0.now)
 one_reading_flat_check κs a x y s t p q = p ∙ sym q
 
--- the parameters at exit: nodes, marks, len, out
-pub one_reading_flat_trail : OneOutcome 3 trail_kinds.ps trail_kinds.r trail_reads.Post (λ κs r s. s.1.1.1.0.now)
+-- the parameters at exit: trail, out
+pub one_reading_flat_trail : OneOutcome 2 trail_kinds.ps trail_kinds.r trail_reads.Post (λ κs r s. s.1.0.now)
 one_reading_flat_trail κs a x y s t p q = p ∙ sym q
 
 pub one_reading_flat_report : OneOutcome 1 report_kinds.ps report_kinds.r report_reads.Post (λ κs r s. s.1.0.now)

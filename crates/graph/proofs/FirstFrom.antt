@@ -1,10 +1,14 @@
 -- The first number at which f is not 0: what it is, and a turn of a loop that looks for it. Assumes nothing.
 use mathlib.Core.Path.{◌≡◌, refl, ap, ◌∙◌}
-use Prim.Native.Nat.{ℕ, zero, suc, ◌+◌, ◌-◌, ◌≤◌, ◌<◌}
-use native.Mathlib.Decide.{ℕ_discrete}
+use Prim.Native.Nat.{ℕ, zero, suc, ◌+◌, ◌-◌, ◌^◌, ◌≤◌, ◌<◌}
+use native.Mathlib.Decide.{ℕ_discrete, dec_lt}
 use native.Mathlib.Numerals.{add-one}
 use native.Mathlib.Omega.{arith}
-use Rattle.graph.specs.Search.{here_else, first_from}
+use Rattle.std.specs.Int.{w64, trailing_zeros}
+use Rattle.std.proofs.lemmas.Nat.Bits.{bit_at-trailing_zeros}
+use Rattle.numbers.specs.Number.{bit}
+use Rattle.numbers.proofs.Bits.{bit_zero}
+use Rattle.graph.specs.Search.{here_else, first_from, lowest}
 
 pub record IsFirst (f : ℕ → ℕ) (n i r : ℕ) : Type 0 where
   pub from : i ≤ r
@@ -53,3 +57,24 @@ over f n i {r} h e =
     let k : n - i ≡ 0 = omega arith in
     let q : r ≡ i = rw k at e in
     q ∙ h
+
+-- ---- of a set of 64 nodes at most that has a node below m, the lowest is where its zeros end
+
+module _ (m s : ℕ) (fits : s < 2 ^ 64) (l : lowest m s < m) where
+  first : IsFirst (λ j. bit j s) m 0 (lowest m s)
+  first = is_first (λ j. bit j s) m 0
+
+  not_empty : (x : ℕ) → s ≡ x → 0 < s
+  not_empty zero e = absurd (omega (arith, first.there (omega arith), ap (bit (lowest m s)) e, bit_zero (lowest m s)))
+  not_empty (suc x) e = omega arith
+
+  zeros : (trailing_zeros w64 s < 64) × (bit (trailing_zeros w64 s) s ≡ 1) × ((i : ℕ) → i < trailing_zeros w64 s → bit i s ≡ 0)
+  zeros = bit_at-trailing_zeros w64 s (not_empty s refl) fits
+
+  pub lowest_zeros : trailing_zeros w64 s ≡ lowest m s
+  lowest_zeros = go (dec_lt (trailing_zeros w64 s) (lowest m s)) (dec_lt (lowest m s) (trailing_zeros w64 s))
+    where
+      go : Dec (trailing_zeros w64 s < lowest m s) → Dec (lowest m s < trailing_zeros w64 s) → trailing_zeros w64 s ≡ lowest m s
+      go (yes a) d = absurd (omega (arith, zeros.1, first.before (trailing_zeros w64 s) (omega arith) a))
+      go (no n) (yes b) = absurd (omega (arith, first.there (omega arith), zeros.2 (lowest m s) b))
+      go (no n) (no k) = omega arith

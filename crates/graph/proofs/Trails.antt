@@ -13,7 +13,7 @@ use Rattle.grammar.specs.Refusal.{allowed}
 use Rattle.graph.specs.Parts.{most_nodes}
 use Rattle.graph.specs.Search.{between, least_between, path_of}
 use Rattle.graph.specs.Marks.{edge_into, mark_of, mark_into, targets_of, marks_of}
-use Rattle.graph.specs.Trails.{trail, filled_up, trail_of, circle_trail}
+use Rattle.graph.specs.Trails.{trail, filled_up, trail_of, circle_trail, no_trail}
 use Rattle.graph.proofs.Marks.{length_marks}
 
 -- ---- filled up with zeros
@@ -47,11 +47,10 @@ filled_at (x ∷ xs) n (suc i) = filled_at xs n i
 
 -- ---- what is handed over
 
--- nothing, in places that are all 0
-pub trail_none : (w : ℕ) (masks : List ℕ) (y : ℕ) {nodes marks c : List ℕ} → nodes ≡ replicate most_nodes 0 → marks ≡ replicate most_nodes 0 → c ≡ []
-    → trail nodes marks 0 ≡ trail_of w masks c y
+-- nothing
+pub trail_none : (w : ℕ) (masks : List ℕ) (y : ℕ) {c : List ℕ} → c ≡ [] → no_trail ≡ trail_of w masks c y
 unfolding trail_of
-trail_none w masks y p q e = rw (p, q, e)
+trail_none w masks y e = rw e
 
 -- it holds the path and its marks again
 module _ (w : ℕ) (masks c : List ℕ) (y : ℕ) where

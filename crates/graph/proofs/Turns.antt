@@ -10,7 +10,7 @@ use native.Mathlib.Numerals.{add-one}
 use native.Mathlib.Omega.{arith}
 use lib.Bits.{bit_or, or_zero_r}
 use lib.Dec.{ltb, eqb}
-use lib.ListN.{length, get_or, set, take, drop, length-append, length-map, length-set, length-take, length-drop, get_or-eq_default}
+use lib.ListN.{length, get_or, set, take, drop, length-map, length-set, length-take, get_or-eq_default}
 use lib.Seq.{set_out, take_at, drop_at, get_or-take}
 use borrow.Author.Tests.{lt-ltb, le-ltb, eq-eqb}
 use Rattle.numbers.specs.Number.{bit}
@@ -18,7 +18,7 @@ use Rattle.numbers.specs.Lists.{up_from}
 use Rattle.numbers.proofs.Bits.{bit_lt, bit_zero, bit_of_or, or_low}
 use Rattle.numbers.proofs.Parts.{take_clipped, drop_clipped}
 use Rattle.grammar.specs.declared.Edge.{Edge}
-use Rattle.graph.specs.Rows.{node, bits, join_at, link, own, pairs_from, placed_to, join, through, step, steps_to, closure, or_else, circle_to, has_circle, root_to}
+use Rattle.graph.specs.Rows.{node, bits, join_at, link, own, pairs_from, placed_to, join, through, step, steps_to, closure, or_else, circle_to, root_to}
 use Rattle.graph.specs.Parts.{map_first, closed_first, targets_to}
 use Rattle.graph.proofs.Closure.{step_bits}
 
@@ -103,9 +103,6 @@ module _ (f : ℕ → ℕ) where
       rw add-one
       (ap₂ (λ (t : List ℕ) (v : ℕ). set t i v) p (q ∙ ap f (ap (λ (t : List ℕ). get_or t i 0) p ∙ row_ahead rows i l))
       ∙ one_more rows i l)
-
-  pub length_map_first : (m : ℕ) (rows : List ℕ) → length (map_first m f rows) ≡ length rows
-  length_map_first m rows = simp (length-append, length-map, length-take, length-drop) (omega arith)
 
 -- ---- the steps
 
@@ -233,13 +230,3 @@ unfolding circle_to
 circle_more i seen rows e =
     rw (add-one, or_low seen (get_or rows i 0 / 2 ^ i))
     (either (seen % 2) (bits rows i i) (circle_to i rows) (omega arith) (bit_lt i (get_or rows i 0)) e)
-
-circle_part : (m n : ℕ) (rows : List ℕ) → n ≤ m → circle_to n (take m rows) ≡ circle_to n rows
-unfolding circle_to
-circle_part m zero rows l = refl
-circle_part m (suc n) rows l =
-    ap₂ (λ (x : ℕ) (q : Bool). or_else (bit n x) q) (get_or-take m rows n 0 l) (circle_part m n rows (omega arith))
-
-pub circle_clipped : (m n : ℕ) (rows : List ℕ) → n ≡ min m (length rows) → circle_to n rows ≡ has_circle (take m rows)
-circle_clipped m n rows e =
-    rw (length-take m rows ∙ sym e) (sym (circle_part m n rows (omega arith)))

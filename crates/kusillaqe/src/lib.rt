@@ -13,7 +13,7 @@ ghost use Rattle.flats.specs.Flat.{flat_check, flat_trail};
 ghost use Rattle.kusillaqe.specs.Flat.{TestedFlat};
 
 use flats::{REPORT, TRAIL};
-use grammar::{NODES, OCCURRENCES};
+use grammar::OCCURRENCES;
 use steps::Store;
 
 // The check of a table: the number of the rule that it breaks, 0 where it breaks none, and the first bad record.
@@ -21,8 +21,7 @@ use steps::Store;
 pub extern "C" fn kusillaqe_check(table: &[u8], broken: &mut [u32; 2])
     ensures { broken.new ≡ flat_check (refusal table.now) }
 {
-    let checked = checks::check(table);
-    flats::flat_check(checked, broken);
+    flats::flat_check(checks::check(table), broken);
 }
 
 // The circularity test over four lent slices; the report is left in numbers, its circle after the first twelve.
@@ -47,8 +46,8 @@ pub extern "C" fn kusillaqe_test(
         productions,
         kids,
     };
-    let r = passes::test(table, limit, &mut store);
-    flats::flat_report(r, report);
+    let tested = passes::test(table, limit, &mut store);
+    flats::flat_report(tested, report);
 }
 
 // The rows of a run of edge records.
@@ -56,8 +55,7 @@ pub extern "C" fn kusillaqe_test(
 pub extern "C" fn kusillaqe_own_rows(run: &[u8], rows: &mut [u64; 64])
     ensures { rows.new ≡ own attributes (edges_in run.now) (replicate 64 0) }
 {
-    let own = closures::own_rows(run);
-    *rows = own;
+    *rows = closures::own_rows(run);
 }
 
 // A subtree's pairs, placed at its occurrence.
@@ -96,10 +94,8 @@ pub extern "C" fn kusillaqe_circle(
     ensures { circle.new ≡ flat_trail
         (circle_trail attributes masks.now (circle_of (take (attributes * occurrences) rows.now))) }
 {
-    let mut nodes = [0u8; NODES];
-    let mut marks = [0u8; NODES];
-    let len = search::circle(rows, occurrences, masks, &mut nodes, &mut marks);
-    flats::flat_trail(&nodes, &marks, len, circle);
+    let found = search::circle(rows, occurrences, masks);
+    flats::flat_trail(&found, circle);
 }
 
 // The shortest path of one or more links from one of these nodes to another, and of these the least.
@@ -115,10 +111,8 @@ pub extern "C" fn kusillaqe_path(
     ensures { path.new ≡ flat_trail
         (trail_of attributes masks.now (path_of (take (attributes * occurrences) rows.now) from to) to) }
 {
-    let mut nodes = [0u8; NODES];
-    let mut marks = [0u8; NODES];
-    let len = search::path(rows, occurrences, masks, from, to, &mut nodes, &mut marks);
-    flats::flat_trail(&nodes, &marks, len, path);
+    let found = search::path(rows, occurrences, masks, from, to);
+    flats::flat_trail(&found, path);
 }
 
 // The pairs among the nodes of the left symbol.

@@ -5,7 +5,6 @@ ghost use Rattle.std.specs.Prelude.{◌≡◌, true, [], ◌∷◌, ◌≤◌, �
 ghost use Rattle.numbers.specs.Lists.{up_from};
 ghost use Rattle.grammar.specs.Table.{P, grammar_of};
 ghost use Rattle.grammar.specs.Refusal.{refusal};
-ghost use Rattle.graph.specs.Trails.{trail, no_trail};
 ghost use Rattle.parts.specs.Rule.{taking};
 ghost use Rattle.rules.specs.Passes as stated;
 ghost use Rattle.rules.specs.Test.{system_in, report_with};
@@ -15,7 +14,7 @@ ghost use Rattle.steps.specs.Step.{counts, run_at};
 ghost use Rattle.turns.specs.Turning.{of_symbol, Numbers, Firsts};
 ghost use Rattle.passes.specs.Follow.{ending_of, unsaid, Follows, Roomy, InTurn, over, task_of, combos_in, parts_among, circle_over};
 
-use grammar::{NODES, Production, SLOTS};
+use grammar::{Production, SLOTS};
 use graph::Trail;
 use rules::{Answer, Report};
 use steps::{Run, Stop, Store, Task, Verdict};
@@ -206,22 +205,15 @@ fn passes(
     }
 }
 
-// Where the answer is circular, the circle of the root, whose entries have these graphs, in arrays that are 0 so far.
-fn circle_said(
-    table: &[u8],
-    graphs: &[u64],
-    root: [u16; SLOTS],
-    answer: Answer,
-    nodes: &mut [u8; NODES],
-    marks: &mut [u8; NODES],
-) -> u8
-    requires { (refusal table.now ≡ Ok tt) × (trail nodes.old marks.old 0 ≡ no_trail) }
-    ensures { trail nodes.new marks.new result ≡ circle_over table.now graphs.now root answer }
+// Where the answer is circular, the circle of the root, whose entries have these graphs.
+fn circle_said(table: &[u8], graphs: &[u64], root: [u16; SLOTS], answer: Answer) -> Trail
+    requires { refusal table.now ≡ Ok tt }
+    ensures { result ≡ circle_over table.now graphs.now root answer }
 {
-    let Answer::Circular(p) = answer else {
-        return 0;
-    };
-    circles::circle_of(table, graphs, numbers::wide(p), root, nodes, marks)
+    match answer {
+        Answer::Circular(p) => circles::circle_of(table, graphs, usize::from(p), root),
+        _ => search::no_trail(),
+    }
 }
 
 // The report, with the circle. Only the graphs of stored entries are read.
@@ -230,25 +222,19 @@ fn reported(table: &[u8], graphs: &[u64], ending: Ending) -> Report
     ensures { result ≡ report_with
         (circle_over table.now (take ending.entries graphs.now) ending.root ending.answer) (unsaid ending) }
 {
-    let stored = numbers::wide(ending.entries);
-    let answer = ending.answer;
-    let root = ending.root;
-    let mut nodes = [0u8; NODES];
-    let mut marks = [0u8; NODES];
-    let len = circle_said(
-        table,
-        &graphs[..stored],
-        root,
+    let Ending {
         answer,
-        &mut nodes,
-        &mut marks,
-    );
-    let circle = Trail { nodes, marks, len };
+        root,
+        closures,
+        entries,
+        passes,
+    } = ending;
+    let circle = circle_said(table, &graphs[..usize::from(entries)], root, answer);
     Report {
         answer,
-        closures: ending.closures,
-        entries: ending.entries,
-        passes: ending.passes,
+        closures,
+        entries,
+        passes,
         root,
         circle,
     }

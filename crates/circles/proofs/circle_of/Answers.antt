@@ -24,15 +24,12 @@ ring_made bs graphs p n occurrences root rows masks q r e f o l m h =
     let s : occurrences ≡ suc (rights_in q) = omega arith in
     h ∙ rw (s, l, m, f, e)
 
-pub overflow_add-rights : goal.overflow_add-rights
-overflow_add-rights c = omega (arith, c.smaller-rights.ensures)
-
 pub returns : goal.returns
 returns c =
-    ring_made c.args.table.now c.args.graphs.now c.args.number c.smaller-rights.result _ c.args.root _ _ _ _
+    ring_made c.args.table.now c.args.graphs.now c.args.number c.min-rights.result _ c.args.root _ _ _ _
     c.production_of-production.ensures
-    (c.smaller-rights.ensures ∙ ap (λ (n : ℕ). min n 7) c.wide.ensures)
+    (c.min-rights.ensures ∙ ap (λ (n : ℕ). min n 7) c.from.ensures)
     refl
     (c.compound.ensures
-    ∙ ap (λ (l : List ℕ). placed_from 8 1 (picked_graphs c.args.graphs.now c.smaller-rights.result c.args.root) (own_in l)) c.run_of-run.ensures)
+    ∙ ap (λ (l : List ℕ). placed_from 8 1 (picked_graphs c.args.graphs.now c.min-rights.result c.args.root) (own_in l)) c.run_of-run.ensures)
     c.masks_of-masks.ensures c.circle.ensures

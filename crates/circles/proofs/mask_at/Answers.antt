@@ -6,11 +6,8 @@ use Rattle.grammar.specs.Grammar.{symbol}
 use Rattle.grammar.specs.Table.{grammar_of}
 use Rattle.circles.proofs.mask_at.Goals as goal
 
-pub symbol_at-s-requires : goal.symbol_at-s-requires
-symbol_at-s-requires c = c.requires
-
 pub returns : goal.returns
 returns c =
     let g = grammar_of c.args.table.now in
     ap (λ (s : Symbol). s.mask) c.symbol_of.ensures
-    ∙ ap (λ (i : ℕ). (symbol g i).mask) (c.wide.ensures ∙ c.symbol_at-s.ensures)
+    ∙ ap (λ (i : ℕ). (symbol g i).mask) (c.from.ensures ∙ c.symbol_at-symbol.ensures)

@@ -37,7 +37,7 @@ pub loop-o-preserved : goal.loop-o-preserved
 loop-o-preserved c =
     let g = grammar_of c.args.table.now in
     let p = c.args.production in
-    let rights : c.smaller-rights.result ≡ rights_in p = c.smaller-rights.ensures ∙ ap (λ (n : ℕ). min n 7) c.wide.ensures in (
+    let rights : c.min-rights.result ≡ rights_in p = c.min-rights.ensures ∙ ap (λ (n : ℕ). min n 7) c.from.ensures in (
       omega (arith, c.loop-o-test.true),
       filled_map_more (mask_at g p) 8 (up_from 0 c.loop-o.o) c.loop-o.o c.loop-o.o c.loop-o.invariant.1 c.mask_at.ensures
           (length_up_from 0 c.loop-o.o) (omega arith)
@@ -46,7 +46,7 @@ loop-o-preserved c =
 
 pub returns : goal.returns
 returns c =
-    let rights : c.smaller-rights.result ≡ rights_in c.args.production = c.smaller-rights.ensures ∙ ap (λ (n : ℕ). min n 7) c.wide.ensures in
+    let rights : c.min-rights.result ≡ rights_in c.args.production = c.min-rights.ensures ∙ ap (λ (n : ℕ). min n 7) c.from.ensures in
     c.loop-o.invariant.1
-    ∙ masked_all (grammar_of c.args.table.now) c.args.production c.smaller-rights.result c.loop-o.o rights
+    ∙ masked_all (grammar_of c.args.table.now) c.args.production c.min-rights.result c.loop-o.o rights
     (omega arith)

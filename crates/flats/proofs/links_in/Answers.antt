@@ -36,4 +36,4 @@ begun_more {nodes} {marks} {out} {x} {i} {a} {b} s l n m f g =
 
 pub loop-i-preserved : goal.loop-i-preserved
 loop-i-preserved c =
-    begun_more c.loop-i.invariant (omega arith) (search rules) (search rules) c.number.ensures c.number-in-loop-i.ensures
+    begun_more c.loop-i.invariant (omega arith) (search rules) (search rules) c.from.ensures c.from-in-loop-i.ensures

@@ -4,4 +4,4 @@ use Rattle.flats.specs.Flat.{Begun}
 use Rattle.flats.proofs.links_in.Given as goal
 
 abbrev pub invariant-loop-i : goal.invariant-loop-i
-invariant-loop-i l = Begun l.nodes l.marks (get_or l.initial.out 0 0) l.i l.out
+invariant-loop-i l = Begun l.trail.nodes l.trail.marks (get_or l.initial.out 0 0) l.i l.out

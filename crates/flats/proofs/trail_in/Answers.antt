@@ -23,5 +23,5 @@ pub returns : goal.returns
 returns c =
     let a = c.args in
     begun_all c.links_in-2.ensures (search rules) (search rules)
-    ∙ ap (λ (x : ℕ). x ∷ a.nodes.now ++ a.marks.now)
-    (begun_first c.links_in.ensures ∙ get_or-set_same a.out.now 0 c.number.result 0 (omega arith) ∙ c.number.ensures)
+    ∙ ap (λ (x : ℕ). x ∷ a.trail.now.nodes ++ a.trail.now.marks)
+    (begun_first c.links_in.ensures ∙ get_or-set_same a.out.now 0 c.from.result 0 (omega arith) ∙ c.from.ensures)

@@ -7,15 +7,15 @@ use Rattle.passes.specs.Follow.{circle_over}
 use Rattle.passes.proofs.Circles.{none_said, one_said}
 use Rattle.passes.proofs.circle_said.Goals as goal
 
+pub returns-in-Circular : goal.returns-in-Circular
+returns-in-Circular c =
+    let bs = c.args.table.now in
+    c.circle_of.ensures
+    ∙ ap (λ (p : ℕ). ring_in bs c.args.graphs.now p c.args.root) c.from.ensures
+    ∙ one_said bs c.requires c.args.graphs.now c.args.root _ (omega arith)
+    ∙ ap (circle_over bs c.args.graphs.now c.args.root) (sym c.in-Circular.is)
+
 pub returns-in_default : goal.returns-in_default
 returns-in_default c =
     let a = c.args in
-    c.requires.1 ∙ none_said a.table.now a.graphs.now a.root a.answer c.in_default.not-Circular
-
-pub returns : goal.returns
-returns c =
-    let bs = c.args.table.now in
-    c.circle_of.ensures
-    ∙ ap (λ (p : ℕ). ring_in bs c.args.graphs.now p c.args.root) c.wide.ensures
-    ∙ one_said bs c.requires.0 c.args.graphs.now c.args.root _ (omega arith)
-    ∙ ap (circle_over bs c.args.graphs.now c.args.root) (sym c.in-Circular.is)
+    c.no_trail.ensures ∙ none_said a.table.now a.graphs.now a.root a.answer c.in_default.not-Circular
