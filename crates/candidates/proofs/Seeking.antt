@@ -11,7 +11,7 @@ use lib.Dec.{eqb}
 use lib.ListN.{length, get_or}
 use borrow.Author.Tests.{eqb-true, eqb-false}
 use Rattle.std.specs.Prelude.{None, Some}
-use Rattle.candidates.specs.Next.{first_up, next_of, Next, NoNext}
+use Rattle.candidates.specs.Next.{first_up, next_of, IsNext, Next}
 
 module _ (t : ℕ → Bool) where
   pub up_hit : (e end : ℕ) → e < end → t e ≡ true → first_up t e (end - e) ≡ Some e
@@ -75,7 +75,7 @@ module _ (t : ℕ → Bool) where
       go false q f = from_here (λ i. i < e + suc n) e q (λ j a b. f (rw q at h) j a (omega (arith, b)))
 
 module _ (symbols : List ℕ) (y from first : ℕ) where
-  pub next_some : (e : ℕ) → next_of symbols y from first ≡ Some e → Next symbols y from first e
+  pub next_some : (e : ℕ) → next_of symbols y from first ≡ Some e → IsNext symbols y from first e
   next_some e h =
       let w = found (λ i. eqb (get_or symbols i 0) y) (min first (length symbols) - from) from e h in
       record {
@@ -85,5 +85,10 @@ module _ (symbols : List ℕ) (y from first : ℕ) where
         found = eqb-true _ _ w.hit;
       }
 
-  pub next_none : first ≤ length symbols → next_of symbols y from first ≡ None → NoNext symbols y from first
-  next_none u h i a b z = eqb-false _ _ (nowhere (λ i. eqb (get_or symbols i 0) y) (min first (length symbols) - from) from h i a (omega arith)) z
+  pub next_of_lem : first ≤ length symbols → Next symbols y from first (next_of symbols y from first)
+  next_of_lem u =
+      let t = λ (i : ℕ). eqb (get_or symbols i 0) y in
+      record {
+        some = next_some;
+        none = λ h i a b z. eqb-false _ _ (nowhere t (min first (length symbols) - from) from h i a (omega arith)) z;
+      }

@@ -21,9 +21,9 @@ found_is e = record { more_is = ap (λ (m : Moved). m.more) e; numbers_are = ap 
 
 -- k places are left, or none is
 module _ (symbols rights : List ℕ) (first k : ℕ) (xs : List ℕ) where
-  pub firsts_end : k ≤ 0 → firsts_to symbols rights first k xs ≡ moved true xs
+  pub firsts_none : k ≤ 0 → firsts_to symbols rights first k xs ≡ moved true xs
   unfolding firsts_to
-  firsts_end l = let z : k ≡ 0 = omega arith in rw z
+  firsts_none l = let z : k ≡ 0 = omega arith in rw z
 
   module _ (some : 0 < k) where
     last : k ≡ suc (k - 1)
@@ -39,9 +39,9 @@ module _ (symbols rights : List ℕ) (first k : ℕ) (xs : List ℕ) where
     firsts_miss h = ap (λ (i : ℕ). firsts_to symbols rights first i xs) last ∙ rw h
 
   module _ (firsts : List ℕ) where
-    pub moved_end : k ≤ 0 → moved_to symbols rights firsts first k xs ≡ moved false xs
+    pub moved_none : k ≤ 0 → moved_to symbols rights firsts first k xs ≡ moved false xs
     unfolding moved_to
-    moved_end l = let z : k ≡ 0 = omega arith in rw z
+    moved_none l = let z : k ≡ 0 = omega arith in rw z
 
     module _ (some : 0 < k) where
       pub moved_hit : (e : ℕ) → next_of symbols (get_or rights (k - 1) 0) (suc (get_or xs (k - 1) 0)) first ≡ Some e
@@ -56,9 +56,9 @@ module _ (symbols rights : List ℕ) (first k : ℕ) (xs : List ℕ) where
 
 -- ---- the last place with a candidate from a number on
 module _ (symbols rights : List ℕ) (old first k : ℕ) where
-  pub newest_end : k ≤ 0 → newest_to symbols rights old first k ≡ None
+  pub newest_none : k ≤ 0 → newest_to symbols rights old first k ≡ None
   unfolding newest_to
-  newest_end l = let z : k ≡ 0 = omega arith in rw z
+  newest_none l = let z : k ≡ 0 = omega arith in rw z
 
   module _ (some : 0 < k) where
     here : k ≡ suc (k - 1)

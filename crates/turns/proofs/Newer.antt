@@ -25,7 +25,7 @@ use Rattle.turns.specs.Moves.{Moved}
 use Rattle.turns.specs.Skips.{all_below, with_new, newest_to, skipped}
 use Rattle.turns.specs.Turning.{of_symbol, Numbers, Firsts, GoesOn}
 use Rattle.turns.proofs.Odometer.{begins}
-use Rattle.turns.proofs.Turning.{numbers_long, numbers_set, set_at, Candidate, NoCandidate, candidate, no_candidate}
+use Rattle.turns.proofs.Turning.{numbers_long, numbers_set, set_at, Candidate, NoCandidate, candidate, none_further}
 use Rattle.turns.proofs.Skipping.{all_below_lem, one_new, skips, NoneNew}
 
 apart : (a b : ℕ) → (a < b) ⊎ (b ≤ a)
@@ -111,7 +111,7 @@ module _ (symbols₀ symbols rights : List ℕ) (first places old : ℕ) (few : 
       where
         go : (x : Option ℕ) → next_of symbols (get_or rights i 0) old first ≡ x → NewestIs (newest_to symbols rights old first (suc i))
         go (Some e) q = rw q (found e (candidate symbols₀ symbols rights first places few held stay i old e q))
-        go None q = rw q (r (none_either (no_candidate symbols₀ symbols rights first places few held stay i old q)))
+        go None q = rw q (r (none_either (none_further symbols₀ symbols rights first places few held stay i old q)))
 
   newest_by : (k : ℕ) → k ≤ places → NoneNew old test first places k → NewestIs (newest_to symbols rights old first k)
   unfolding newest_to

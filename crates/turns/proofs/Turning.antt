@@ -16,7 +16,7 @@ use Rattle.numbers.proofs.Ranges.{length_up_from, at_below}
 use Rattle.rules.specs.Passes.{seven, prefixed, combinations}
 use Rattle.rules.proofs.Stored.{length_seven}
 use Rattle.candidates.specs.Next.{next_of}
-use Rattle.candidates.proofs.Seeking.{next_some, next_none}
+use Rattle.candidates.proofs.Seeking.{next_of_lem}
 use Rattle.turns.specs.Combos.{candidates_from, combos_of, behind, First}
 use Rattle.turns.specs.Moves.{Moved, moved, firsts_to, moved_to}
 use Rattle.turns.specs.Turning.{of_symbol, Numbers, Firsts, MovesAt, Begins, GoesOn}
@@ -87,7 +87,7 @@ module _ (symbols₀ symbols rights : List ℕ) (first places : ℕ) (few : plac
 
   pub candidate : (i from e : ℕ) → next_of symbols (get_or rights i 0) from first ≡ Some e → Candidate i from e
   candidate i from e q =
-      let w = next_some symbols (get_or rights i 0) from first e q in
+      let w = (next_of_lem symbols (get_or rights i 0) from first held).some e q in
       record {
         after_it = w.after;
         within = w.within;
@@ -95,9 +95,9 @@ module _ (symbols₀ symbols rights : List ℕ) (first places : ℕ) (few : plac
         hit = eq-eqb _ _ (sym (stay _ w.within) ∙ w.found);
       }
 
-  pub no_candidate : (i from : ℕ) → next_of symbols (get_or rights i 0) from first ≡ None → NoCandidate i from
-  no_candidate i from q j a b =
-      ne_eqb _ _ (λ h. next_none symbols (get_or rights i 0) from first held q j a b (stay j b ∙ h))
+  pub none_further : (i from : ℕ) → next_of symbols (get_or rights i 0) from first ≡ None → NoCandidate i from
+  none_further i from q j a b =
+      ne_eqb _ _ (λ h. (next_of_lem symbols (get_or rights i 0) from first held).none q j a b (stay j b ∙ h))
 
   -- ---- the next combination
   module _ (firsts : List ℕ) (begun : Numbers places first firsts) (all : Firsts test first places firsts) where
@@ -173,7 +173,7 @@ module _ (symbols₀ symbols rights : List ℕ) (first places : ℕ) (few : plac
           go : (r : Option ℕ) → next_of symbols (get_or rights i 0) (suc (get_or xs i 0)) first ≡ r
               → Goes (suc i) xs (moved_to symbols rights firsts first (suc i) xs)
           go (Some e) q = rw q (on e (candidate i (suc (get_or xs i 0)) e q))
-          go None q = rw q (back (no_candidate i (suc (get_or xs i 0)) q) _ g)
+          go None q = rw q (back (none_further i (suc (get_or xs i 0)) q) _ g)
 
     goes : (k : ℕ) (xs : List ℕ) → k ≤ places → Numbers places first xs
         → ((j : ℕ) → k ≤ j → j < places → First test first places j (get_or xs j 0)) → Goes k xs (moved_to symbols rights firsts first k xs)
@@ -206,9 +206,9 @@ module _ (symbols₀ symbols rights : List ℕ) (first places : ℕ) (few : plac
   combinations_none (xs ∷ xss) zero l h = rw h
   combinations_none (xs ∷ xss) (suc j) l h = rw (combinations_none xss j (omega arith) h, prefixed_none xs)
 
-  none_begins : (i : ℕ) → i < places → NoCandidate i 0 → combos_of test first places 0 ≡ []
+  no_candidate : (i : ℕ) → i < places → NoCandidate i 0 → combos_of test first places 0 ≡ []
   unfolding combos_of
-  none_begins i l h =
+  no_candidate i l h =
       combinations_none (map (λ j. candidates_from test first places j 0) (up_from 0 (places - 0))) i
       (omega (arith, l, length-map (up_from 0 (places - 0)) (λ j. candidates_from test first places j 0), length_up_from 0 (places - 0)))
       (at_below (λ j. candidates_from test first places j 0) [] (places - 0) i (omega (arith, l))
@@ -245,7 +245,7 @@ module _ (symbols₀ symbols rights : List ℕ) (first places : ℕ) (few : plac
             (record {
               numbers = λ y. absurd (false≢true y);
               firsts = λ y. absurd (false≢true y);
-              none = λ y. none_begins i low (no_candidate i 0 q);
+              none = λ y. no_candidate i low (none_further i 0 q);
             })
 
   begin : (k : ℕ) (xs : List ℕ) → k ≤ places → xs ≡ seven (take places xs)

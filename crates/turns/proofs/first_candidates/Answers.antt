@@ -4,7 +4,7 @@ use Prim.Native.Nat.{◌-◌}
 use native.Mathlib.Omega.{arith}
 use Rattle.candidates.proofs.Seeking.{next_some}
 use Rattle.turns.specs.Moves.{firsts_to}
-use Rattle.turns.proofs.Moving.{chosen, found_is, firsts_end, firsts_more, firsts_miss}
+use Rattle.turns.proofs.Moving.{chosen, found_is, firsts_none, firsts_more, firsts_miss}
 use Rattle.turns.proofs.first_candidates.Goals as goal
 
 pub overflow_cast-e : goal.overflow_cast-e
@@ -33,4 +33,4 @@ returns-in-None c =
 pub returns : goal.returns
 returns c =
     let a = c.args in
-    found_is (sym (firsts_end a.symbols.now a.rights.now a.first c.loop-k.k c.loop-k.firsts c.loop-k-test.false) ∙ c.loop-k.invariant)
+    found_is (sym (firsts_none a.symbols.now a.rights.now a.first c.loop-k.k c.loop-k.firsts c.loop-k-test.false) ∙ c.loop-k.invariant)

@@ -3,7 +3,7 @@ use mathlib.Core.Path.{sym, ◌∙◌}
 use Prim.Native.Nat.{◌-◌}
 use native.Mathlib.Omega.{arith}
 use Rattle.candidates.proofs.Seeking.{next_some}
-use Rattle.turns.proofs.Moving.{chosen, newest_end, newest_hit, newest_back}
+use Rattle.turns.proofs.Moving.{chosen, newest_none, newest_hit, newest_back}
 use Rattle.turns.proofs.newest_place.Goals as goal
 
 pub overflow_cast-result : goal.overflow_cast-result
@@ -32,4 +32,4 @@ loop-place-preserved c =
 pub returns : goal.returns
 returns c =
     let a = c.args in
-    sym (newest_end a.symbols.now a.rights.now a.old a.first c.loop-place.place c.loop-place-test.false) ∙ c.loop-place.invariant
+    sym (newest_none a.symbols.now a.rights.now a.old a.first c.loop-place.place c.loop-place-test.false) ∙ c.loop-place.invariant

@@ -6,7 +6,7 @@ use Prim.Native.Nat.{suc, ◌-◌}
 use native.Mathlib.Omega.{arith}
 use Rattle.candidates.proofs.Seeking.{next_some}
 use Rattle.turns.specs.Moves.{moved, moved_to}
-use Rattle.turns.proofs.Moving.{chosen, found_is, moved_end, moved_hit, moved_back}
+use Rattle.turns.proofs.Moving.{chosen, found_is, moved_none, moved_hit, moved_back}
 use Rattle.turns.proofs.next_combination.Goals as goal
 
 pub overflow_cast-e : goal.overflow_cast-e
@@ -38,4 +38,4 @@ loop-k-preserved c =
 pub returns : goal.returns
 returns c =
     let a = c.args in
-    found_is (sym (moved_end a.symbols.now a.rights.now a.first c.loop-k.k c.loop-k.picked a.firsts.now c.loop-k-test.false) ∙ c.loop-k.invariant)
+    found_is (sym (moved_none a.symbols.now a.rights.now a.first c.loop-k.k c.loop-k.picked a.firsts.now c.loop-k-test.false) ∙ c.loop-k.invariant)
