@@ -16,38 +16,41 @@ use Rattle.lines.specs.Buffer.{Written}
 use Rattle.lines.proofs.Putting.{fitting, fitted, lines}
 use Rattle.passes.specs.Slices.{Slices, room_of, entry_at, entries_to}
 use Rattle.passes.proofs.Entries.{length_entries}
+use Rattle.print.specs.declared.Page.{Page}
 use Rattle.print.specs.Texts.{entry_text, bytes_for, enough, Placed, Printed}
 
-pub nothing : (at : ℕ) (old : List ℕ) → at ≤ length old → Placed [] 0 at old old at
-nothing at old h =
+pub nothing : (p : Page) → p.at ≤ length p.buf.now → Placed [] 0 p p
+nothing p h =
     record {
-      written = fitting [] at old (omega arith) (rw (add-zero, append-nil, take-append-drop)) (omega arith);
+      written = fitting [] p.at p.buf.now (omega arith) (rw (add-zero, append-nil, take-append-drop)) (omega arith);
       short = omega arith;
+      lent = refl;
     }
 
-pub placed : {text : List ℕ} {at : ℕ} {old new : List ℕ} {r : ℕ} → Written text at old new r → Placed text (length text) at old new r
-placed w = record { written = w; short = omega arith }
-
-module _ {at : ℕ} {old new : List ℕ} {r : ℕ} where
+module _ {p q : Page} where
   -- the same text, and a bound that is no less
-  pub within : {l k : List ℕ} {m n : ℕ} → l ≡ k → m ≤ n → Placed l m at old new r → Placed k n at old new r
-  within e h p =
-      record { written = subst (λ (t : List ℕ). Written t at old new r) e p.written; short = rw (← e) (omega (arith, p.short)) }
+  pub within : {l k : List ℕ} {m n : ℕ} → l ≡ k → m ≤ n → Placed l m p q → Placed k n p q
+  within e h f =
+      record {
+        written = subst (λ (t : List ℕ). Written t p.at p.buf.now q.buf.now q.at) e f.written;
+        short = rw (← e) (omega (arith, f.short));
+        lent = f.lent;
+      }
 
-  pub then : {l k : List ℕ} {m n p : ℕ} {mid : List ℕ} → at + (m + n) ≤ length old → Placed l m at old mid p → Placed k n p mid new r
-      → Placed (l ++ k) (m + n) at old new r
+  pub then : {l k : List ℕ} {m n : ℕ} {mid : Page} → p.at + (m + n) ≤ length p.buf.now → Placed l m p mid → Placed k n mid q
+      → Placed (l ++ k) (m + n) p q
   then {l} {k} {m} {n} h f g =
-      let both : length (l ++ k) ≤ m + n = rw length-append (omega arith) in
-      record { written = lines l k at old (omega arith) f.written g.written; short = both }
+      let both : length (l ++ k) ≤ m + n = rw length-append (omega (arith, f.short, g.short)) in
+      record { written = lines l k p.at p.buf.now (omega arith) f.written g.written; short = both; lent = g.lent ∙ f.lent }
 
--- where a text that fits was placed, the buffer is as long as before, and the next place is right behind the text
-pub placed_length : {text : List ℕ} {m at : ℕ} {old new : List ℕ} {r : ℕ} → at + m ≤ length old → Placed text m at old new r
-    → (length new ≡ length old) × (r ≤ at + m)
-placed_length {text} {m} {at} {old} {new} {r} h p =
-    let s = p.short in
-    let f = fitted text at old (omega arith) p.written in
-    let e = f.1 in
-    (rw (f.0, length-append, length-append, length-take-le at old (omega arith), length-drop) (omega arith), omega arith)
+  -- where a text that fits was placed, the buffer is as long as before, and the next place is right behind the text
+  pub placed_length : {text : List ℕ} {m : ℕ} → p.at + m ≤ length p.buf.now → Placed text m p q
+      → (length q.buf.now ≡ length p.buf.now) × (q.at ≤ p.at + m)
+  placed_length {text} {m} h f =
+      let s = f.short in
+      let g = fitted text p.at p.buf.now (omega arith) f.written in
+      let e = g.1 in
+      (rw (g.0, length-append, length-append, length-take-le p.at p.buf.now (omega arith), length-drop) (omega arith), omega arith)
 
 -- ---- the whole text
 
@@ -58,12 +61,14 @@ roomy report σ old h = (both_decides (le_decides _ _) (le_decides _ _)).so h
 pub not_printed : {text old : List ℕ} {ok : Bool} → ok ≡ false → Printed text ok old old 0
 not_printed e = rw e (record { buffer = refl; count = refl })
 
-pub is_printed : {text : List ℕ} {most : ℕ} {old new : List ℕ} {r : ℕ} {ok : Bool} → ok ≡ true → most ≤ length old → Placed text most 0 old new r
-    → Printed text ok old new r
-is_printed {text} {most} {old} e h p =
-    let s = p.short in
-    let f = fitted text 0 old (omega arith) p.written in
-    rw e (record { buffer = f.0 ∙ rw zero-add; count = omega arith })
+-- the buffer ends as the page leaves it
+pub is_printed : {text new : List ℕ} {most : ℕ} {p q : Page} {ok : Bool} → ok ≡ true → p.at ≡ 0 → most ≤ length p.buf.now → Placed text most p q
+    → new ≡ q.buf.now → Printed text ok p.buf.now new q.at
+is_printed {text} {new} {most} {p} {q} e start h f kept =
+    let s = f.short in
+    let w : Written text 0 p.buf.now q.buf.now q.at = rw start at f.written in
+    let g = fitted text 0 p.buf.now (omega arith) w in
+    rw (e, kept) (record { buffer = g.0 ∙ rw zero-add; count = omega arith })
 
 -- ---- the entries
 

@@ -8,6 +8,7 @@ use Rattle.texts.specs.Lines.{entry_line, circle_line}
 pub use Rattle.texts.specs.Lines.{kids_in}
 use Rattle.lines.specs.Buffer.{line_bytes, put_line, next, Written}
 use Rattle.passes.specs.Slices.{Slices, room_of}
+use Rattle.print.specs.declared.Page.{Page}
 
 -- ---- what is promised
 
@@ -43,7 +44,8 @@ link_bytes = 9
 abbrev pub entry_text : (ℕ → ℕ) → ℕ → Entry → List ℕ
 entry_text n i e = entry_line i e.symbol e.production (take (n e.production) e.kids) e.graph
 
--- a text of at most so many bytes, from `at` on where it fits
-pub record Placed (text : List ℕ) (most at : ℕ) (old new : List ℕ) (r : ℕ) : Type 0 where
-  pub written : Written text at old new r
+-- a text of at most so many bytes, behind what stands on a page, where it fits; the page keeps its buffer
+pub record Placed (text : List ℕ) (most : ℕ) (old new : Page) : Type 0 where
+  pub written : Written text old.at old.buf.now new.buf.now new.at
   pub short : length text ≤ most
+  pub lent : new.buf.ghost_name ≡ old.buf.ghost_name

@@ -5,7 +5,7 @@ ghost use Rattle.std.specs.Prelude.{◌≡◌, ◌+◌, ◌*◌, ◌≤◌, ◌<
 ghost use Rattle.numbers.specs.Lists.{both};
 ghost use Rattle.graph.specs.Parts.{most_nodes};
 ghost use Rattle.lines.specs.Buffer.{line_bytes};
-ghost use Rattle.texts.specs.Lines.{first_line, root_line, link_text, links_text, circle_line, entry_lines, root_lines, rest, printed};
+ghost use Rattle.texts.specs.Lines.{first_line, root_line, links_text, circle_line, entry_lines, root_lines, rest, printed};
 ghost use Rattle.steps.specs.Lent.{read};
 ghost use Rattle.passes.specs.Slices.{room_of, entry_at, entries_to, read_out};
 ghost use Rattle.print.specs.Texts.{kids_in, entry_text, Placed, bytes_for, circle_bytes, link_bytes, enough, CirclePut, Printed};
@@ -31,76 +31,107 @@ fn kids_in(table: &[u8], p: u16) -> usize
     usize::from(production.n)
 }
 
-fn first_line(buf: &mut [u8], report: Report) -> usize
-    ensures { Placed (first_line report) line_bytes 0 buf.old buf.new result }
-{
-    lines::put_first(buf, 0, report)
+// A lent buffer, and the place behind what stands in it so far.
+#[derive(Drop)]
+struct Page<'a> {
+    buf: &'a mut [u8],
+    at: usize,
 }
 
-fn entry_line(buf: &mut [u8], at: usize, table: &[u8], entries: Entries<'_>, i: usize) -> usize
-    requires { i < room_of (read entries) }
-    ensures { Placed (entry_text (kids_in table.now) i (entry_at (read entries.entry) i)) line_bytes at buf.old buf.new result }
-{
-    let entry = entries.entry(i);
-    lines::put_entry(
-        buf,
-        at,
-        i as u16,
-        entry.symbol,
-        entry.production,
-        entry.kids,
-        kids_in(table, entry.production),
-        entry.graph,
-    )
-}
-
-fn entry_lines(buf: &mut [u8], at: usize, table: &[u8], entries: Entries<'_>, count: usize) -> usize
-    requires { (count ≤ room_of (read entries)) × (at + line_bytes * count ≤ length buf.old) }
-    ensures { Placed (entry_lines (kids_in table.now) 0 (entries_to (read entries.entry) count))
-        (line_bytes * count) at buf.old buf.new result }
-{
-    let mut end = at;
-    for i in 0..count {
-        end = entry_line(buf, end, table, entries, i);
+impl Page<'_> {
+    fn first_line(&mut self, report: Report)
+        ensures { Placed (first_line report) line_bytes self.old self.new }
+    {
+        self.at = lines::put_first(self.buf, self.at, report);
     }
-    end
-}
 
-fn root_line(buf: &mut [u8], at: usize, table: &[u8], p: u16, root: [u16; SLOTS]) -> usize
-    ensures { Placed (root_line p (take (kids_in table.now p) root)) line_bytes at buf.old buf.new result }
-{
-    lines::put_root(buf, at, p, root, kids_in(table, p))
-}
-
-// A function by itself, so that a node is known to have 8 bits.
-fn link(buf: &mut [u8], at: usize, node: u8, mark: u8) -> usize
-    ensures { Placed (link_text node mark) link_bytes at buf.old buf.new result }
-{
-    lines::put_link(buf, at, node, mark)
-}
-
-// Of the places the first `len` count, all of them where it is more.
-fn links(buf: &mut [u8], at: usize, circle: Trail) -> usize
-    requires { at + link_bytes * most_nodes ≤ length buf.old }
-    ensures { Placed
-        (links_text (take circle.len circle.nodes) (take circle.len circle.marks))
-        (link_bytes * most_nodes) at buf.old buf.new result }
-{
-    let count = NODES.min(usize::from(circle.len));
-    let mut end = at;
-    for i in 0..count {
-        end = link(buf, end, circle.nodes[i], circle.marks[i]);
+    fn entry_line(&mut self, table: &[u8], entries: Entries<'_>, i: usize)
+        requires { i < room_of (read entries) }
+        ensures { Placed (entry_text (kids_in table.now) i (entry_at (read entries.entry) i)) line_bytes self.old self.new }
+    {
+        let entry = entries.entry(i);
+        self.at = lines::put_entry(
+            self.buf,
+            self.at,
+            i as u16,
+            entry.symbol,
+            entry.production,
+            entry.kids,
+            kids_in(table, entry.production),
+            entry.graph,
+        );
     }
-    end
-}
 
-fn circle_line(buf: &mut [u8], at: usize, circle: Trail) -> usize
-    requires { at + circle_bytes ≤ length buf.old }
-    ensures { Placed (circle_line circle) circle_bytes at buf.old buf.new result }
-{
-    let to_word = lines::put_word(buf, at, b"circle");
-    let to_links = links(buf, to_word, circle);
-    lines::put_word(buf, to_links, b"\n")
+    fn entry_lines(&mut self, table: &[u8], entries: Entries<'_>, count: usize)
+        requires { (count ≤ room_of (read entries)) × (self.old.at + line_bytes * count ≤ length self.old.buf.now) }
+        ensures { Placed (entry_lines (kids_in table.now) 0 (entries_to (read entries.entry) count))
+            (line_bytes * count) self.old self.new }
+    {
+        for i in 0..count {
+            self.entry_line(table, entries, i);
+        }
+    }
+
+    fn root_line(&mut self, table: &[u8], p: u16, root: [u16; SLOTS])
+        ensures { Placed (root_line p (take (kids_in table.now p) root)) line_bytes self.old self.new }
+    {
+        self.at = lines::put_root(self.buf, self.at, p, root, kids_in(table, p));
+    }
+
+    // Of the places the first `len` count, all of them where it is more.
+    fn links(&mut self, circle: Trail)
+        requires { self.old.at + link_bytes * most_nodes ≤ length self.old.buf.now }
+        ensures { Placed (links_text (take circle.len circle.nodes) (take circle.len circle.marks))
+            (link_bytes * most_nodes) self.old self.new }
+    {
+        let count = NODES.min(usize::from(circle.len));
+        for i in 0..count {
+            self.at = lines::put_link(self.buf, self.at, circle.nodes[i], circle.marks[i]);
+        }
+    }
+
+    fn word(&mut self, word: &[u8])
+        ensures { Placed word.now (length word.now) self.old self.new }
+    {
+        self.at = lines::put_word(self.buf, self.at, word);
+    }
+
+    fn circle_line(&mut self, circle: Trail)
+        requires { self.old.at + circle_bytes ≤ length self.old.buf.now }
+        ensures { Placed (circle_line circle) circle_bytes self.old self.new }
+    {
+        self.word(b"circle");
+        self.links(circle);
+        self.word(b"\n");
+    }
+
+    // What follows the entries of a circular answer.
+    fn root_lines(&mut self, table: &[u8], p: u16, report: Report)
+        requires { self.old.at + line_bytes * 6 ≤ length self.old.buf.now }
+        ensures { Placed (root_lines (kids_in table.now) report p) (line_bytes * 6) self.old self.new }
+    {
+        self.root_line(table, p, report.root);
+        self.circle_line(report.circle);
+    }
+
+    // What follows the first line.
+    fn rest_lines(&mut self, table: &[u8], report: Report, entries: Entries<'_>)
+        requires { (report.entries ≤ room_of (read entries))
+            × (self.old.at + line_bytes * (report.entries + 6) ≤ length self.old.buf.now) }
+        ensures { Placed
+            (rest report.answer
+            (entry_lines (kids_in table.now) 0 (entries_to (read entries.entry) report.entries))
+            (root_lines (kids_in table.now) report))
+            (line_bytes * (report.entries + 6)) self.old self.new }
+    {
+        if let Answer::Refused(_) = report.answer {
+            return;
+        }
+        self.entry_lines(table, entries, usize::from(report.entries));
+        if let Answer::Circular(p) = report.answer {
+            self.root_lines(table, p, report);
+        }
+    }
 }
 
 // The line of a circle, where the buffer has room for the longest from `at` on; else nothing is written.
@@ -110,16 +141,9 @@ pub fn put_circle(buf: &mut [u8], at: usize, circle: Trail) -> usize
     if buf.len() < CIRCLE_BYTES || buf.len() - CIRCLE_BYTES < at {
         return at;
     }
-    circle_line(buf, at, circle)
-}
-
-// What follows the entries of a circular answer.
-fn root_lines(buf: &mut [u8], at: usize, table: &[u8], p: u16, report: Report) -> usize
-    requires { at + line_bytes * 6 ≤ length buf.old }
-    ensures { Placed (root_lines (kids_in table.now) report p) (line_bytes * 6) at buf.old buf.new result }
-{
-    let end = root_line(buf, at, table, p, report.root);
-    circle_line(buf, end, report.circle)
+    let mut page = Page { buf, at };
+    page.circle_line(circle);
+    page.at
 }
 
 // Whether there is room for so many entries, and in so many bytes for the line of each and for the others.
@@ -129,31 +153,6 @@ fn is_enough(count: usize, room: usize, bytes: usize) -> bool
     ensures { result ≡ both (leb count room) (leb (bytes_for count) bytes) }
 {
     count <= room && LINE_BYTES * (count + OTHER_LINES) <= bytes
-}
-
-// What follows the first line.
-fn rest_lines(
-    buf: &mut [u8],
-    at: usize,
-    table: &[u8],
-    report: Report,
-    entries: Entries<'_>,
-) -> usize
-    requires { (report.entries ≤ room_of (read entries)) × (at + line_bytes * (report.entries + 6) ≤ length buf.old) }
-    ensures { Placed
-        (rest report.answer
-        (entry_lines (kids_in table.now) 0 (entries_to (read entries.entry) report.entries))
-        (root_lines (kids_in table.now) report))
-        (line_bytes * (report.entries + 6)) at buf.old buf.new result }
-{
-    if let Answer::Refused(_) = report.answer {
-        return at;
-    }
-    let end = entry_lines(buf, at, table, entries, usize::from(report.entries));
-    let Answer::Circular(p) = report.answer else {
-        return end;
-    };
-    root_lines(buf, end, table, p, report)
 }
 
 // The text of a report. Where the slices hold fewer entries than it says, or the buffer less than LINE_BYTES for the line of each and
@@ -166,6 +165,8 @@ pub fn report_text(buf: &mut [u8], table: &[u8], report: Report, entries: Entrie
     if !is_enough(usize::from(report.entries), entries.room(), buf.len()) {
         return 0;
     }
-    let end = first_line(buf, report);
-    rest_lines(buf, end, table, report, entries)
+    let mut page = Page { buf, at: 0 };
+    page.first_line(report);
+    page.rest_lines(table, report, entries);
+    page.at
 }

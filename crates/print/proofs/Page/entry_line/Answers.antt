@@ -1,5 +1,5 @@
 -- The entry's numbers are in the slices. Assumes nothing.
-use mathlib.Core.Path.{◌≡◌, ◌∙◌}
+use mathlib.Core.Path.{◌≡◌, refl, ◌∙◌}
 use Prim.Native.Nat.{ℕ, ◌^◌, ◌≤◌, ◌<◌}
 use native.Mathlib.Omega.{arith}
 use borrow.Author.Rules.{rules}
@@ -12,7 +12,7 @@ use Rattle.steps.specs.Lent.{read}
 use Rattle.steps.specs.Slices.{entry_at}
 use Rattle.steps.proofs.Held.{entry_held}
 use Rattle.print.specs.Texts.{entry_text}
-use Rattle.print.proofs.entry_line.Goals as goal
+use Rattle.print.proofs.Page.entry_line.Goals as goal
 
 pub returns : goal.returns
 returns c =
@@ -25,4 +25,4 @@ returns c =
     let fit : (j : ℕ) → get_or e.kids j 0 < 2 ^ 16 = λ j. (let small : Fits w16 (get_or e.kids j 0) = search rules in omega arith) in
     let short : length (entry_text (λ p. n.result) a.i e) ≤ line_bytes =
     entry_short e.kids n.result seven fit a.i e.symbol e.production e.graph (omega arith) (search rules) (search rules) (search rules) in
-    record { written = rw (n.ensures, is) at c.put_entry.ensures; short = rw (n.ensures, is) at short }
+    record { written = rw (n.ensures, is) at c.put_entry-self.ensures; short = rw (n.ensures, is) at short; lent = refl }

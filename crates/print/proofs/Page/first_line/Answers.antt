@@ -1,6 +1,7 @@
+use mathlib.Core.Path.{refl}
 use borrow.Author.Rules.{rules}
 use Rattle.texts.proofs.Short.{first_short}
-use Rattle.print.proofs.first_line.Goals as goal
+use Rattle.print.proofs.Page.first_line.Goals as goal
 
 pub returns : goal.returns
 returns c =
@@ -14,4 +15,5 @@ returns c =
             of_record = λ k i e. let small = rw e at good.1.0.1.1.0 in search rules;
           })
           (search rules) (search rules) (search rules);
+      lent = refl;
     }

@@ -1,4 +1,5 @@
 -- Of the root's slots those count that its production says. Assumes nothing.
+use mathlib.Core.Path.{refl}
 use native.Mathlib.Omega.{arith}
 use borrow.Author.Rules.{rules}
 use mir.Syntax.{w16}
@@ -6,12 +7,13 @@ use mir.Val.{Fits}
 use lib.ListN.{get_or}
 use Rattle.texts.proofs.Short.{root_short}
 use Rattle.print.specs.Texts.{kids_in}
-use Rattle.print.proofs.root_line.Goals as goal
+use Rattle.print.proofs.Page.root_line.Goals as goal
 
 pub returns : goal.returns
 returns c =
     let args = c.args in
     record {
-      written = rw c.kids_in.ensures at c.put_root.ensures;
+      written = rw c.kids_in.ensures at c.put_root-self.ensures;
       short = root_short args.root (kids_in args.table.now args.p) (search rules) (λ i. let small : Fits w16 (get_or args.root i 0) = search rules in omega arith) args.p (search rules);
+      lent = refl;
     }
