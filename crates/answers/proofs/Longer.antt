@@ -22,7 +22,16 @@ use Rattle.texts.specs.Lines.{kids_in, rest, printed}
 same_counts : (n : ℕ) (bs : List ℕ) → 8 ≤ n → counts_ok (take n bs) ≡ counts_ok bs
 unfolding counts_ok
 same_counts n bs h =
-    rw (get_or-take n bs 0 0 (omega arith), get_or-take n bs 1 0 (omega arith), get_or-take n bs 2 0 (omega arith), get_or-take n bs 3 0 (omega arith), get_or-take n bs 4 0 (omega arith), get_or-take n bs 5 0 (omega arith), get_or-take n bs 6 0 (omega arith), get_or-take n bs 7 0 (omega arith))
+    rw (
+      get_or-take n bs 0 0 (omega arith),
+      get_or-take n bs 1 0 (omega arith),
+      get_or-take n bs 2 0 (omega arith),
+      get_or-take n bs 3 0 (omega arith),
+      get_or-take n bs 4 0 (omega arith),
+      get_or-take n bs 5 0 (omega arith),
+      get_or-take n bs 6 0 (omega arith),
+      get_or-take n bs 7 0 (omega arith),
+    )
 
 by_counts : (counts offsets : Bool) (c : Checked) → (counts ≡ true → offsets ≡ false)
     → cond counts (cond offsets c (Err (Rule 3))) (Err (Rule 2)) ≡ Err (cond counts (Rule 3) (Rule 2))

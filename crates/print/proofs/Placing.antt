@@ -79,7 +79,8 @@ lines_append n i (e ∷ es) fs =
     let step : suc i + length es ≡ i + suc (length es) = omega arith in
     rw (lines_append n (suc i) es fs, step, append_assoc)
 
-pub one_more : (n : ℕ → ℕ) (σ : Slices) (i : ℕ) → entry_lines n 0 (entries_to σ i) ++ entry_text n i (entry_at σ i) ≡ entry_lines n 0 (entries_to σ (i + 1))
+pub one_more : (n : ℕ → ℕ) (σ : Slices) (i : ℕ)
+    → entry_lines n 0 (entries_to σ i) ++ entry_text n i (entry_at σ i) ≡ entry_lines n 0 (entries_to σ (i + 1))
 unfolding entry_lines entries_to
 one_more n σ i =
     let count : 0 + length (entries_to σ i) ≡ i = rw (length_entries σ i) (omega arith) in
