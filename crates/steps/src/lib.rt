@@ -2,9 +2,8 @@
 // combination.
 #![tactic(auto)]
 
-ghost use Rattle.std.specs.Prelude.{◌≡◌, ◌+◌, ◌≤◌, min, length, take, drop};
-ghost use Rattle.std.proofs.lemmas.List.Edits.{sets};
-ghost use Rattle.steps.specs.Slices.{room_for, room_of, entry_in, put_in, slices};
+ghost use Rattle.std.specs.Prelude.{◌≡◌};
+ghost use Rattle.steps.specs.Slices.{room_of, entry_in, put_in};
 ghost use Rattle.steps.specs.Lent.{held, read, Lent};
 ghost use Rattle.steps.specs.Step.{goes_on, stops, seen_in, least, Judges, Tried};
 
@@ -61,12 +60,11 @@ impl Entries<'_> {
     pub fn room(self) -> usize
         ensures { result ≡ room_of (read self.entry) }
     {
-        room_of(
-            self.symbols.len(),
-            self.graphs.len(),
-            self.productions.len(),
-            self.kids.len(),
-        )
+        MOST_ENTRIES
+            .min(self.symbols.len())
+            .min(self.graphs.len())
+            .min(self.productions.len())
+            .min(self.kids.len() / SLOTS)
     }
 
     // The entry of a number; where the slices hold none, one of zeros.
@@ -92,7 +90,7 @@ impl Entries<'_> {
         }
     }
 
-    // Whether the symbol with the graph is among the first `stored` entries that have both.
+    // Whether the symbol with the graph is among the first `stored` entries that have both, which are looked at from the last down.
     fn seen(self, symbol: u16, graph: u64, stored: usize) -> bool
         ensures { result ≡ seen_in self.entry.symbols.now self.entry.graphs.now symbol graph
             (least self.entry.symbols.now self.entry.graphs.now stored) }
@@ -141,38 +139,6 @@ pub enum Verdict {
     New,
 }
 
-// How many entries slices of these lengths hold.
-pub fn room_of(symbols: usize, graphs: usize, productions: usize, kids: usize) -> usize
-    ensures { result ≡ room_for symbols graphs productions kids }
-{
-    numbers::smaller(
-        MOST_ENTRIES,
-        numbers::smaller(
-            symbols,
-            numbers::smaller(graphs, numbers::smaller(productions, kids / SLOTS)),
-        ),
-    )
-}
-
-// The entry of a number; where the slices hold none, one of zeros.
-pub fn entry_of(
-    symbols: &[u16],
-    graphs: &[u64],
-    productions: &[u16],
-    kids: &[u16],
-    i: usize,
-) -> Entry
-    ensures { result ≡ entry_in (slices symbols.now graphs.now productions.now kids.now) i }
-{
-    let entries = Entries {
-        symbols,
-        graphs,
-        productions,
-        kids,
-    };
-    entries.entry(i)
-}
-
 // Steps 1 to 5: the graph of a new entry, or the verdict by which none is stored.
 fn judge(
     entries: Entries<'_>,
@@ -208,12 +174,7 @@ pub fn going_on(left: u32, stored: usize) -> Result<Run, Stop>
 }
 
 // A run that has stopped.
-pub fn stopped(
-    answer: Answer,
-    root: [u16; SLOTS],
-    left: u32,
-    stored: usize,
-) -> Result<Run, Stop>
+pub fn stopped(answer: Answer, root: [u16; SLOTS], left: u32, stored: usize) -> Result<Run, Stop>
     ensures { result ≡ stops answer root left stored }
 {
     Err(Stop {
