@@ -41,6 +41,13 @@ impl SymbolSet {
         s < MOST_SYMBOLS && (self.words[k / 64] >> (k % 64)) & 1 == 1
     }
 
+    // Whether each of these symbols is in the set.
+    fn has_each(&self, symbols: &[u16]) -> bool
+        ensures { result ≡ every (sets.has self.now.words) symbols.now }
+    {
+        symbols.iter().all(|s| self.has(*s))
+    }
+
     // Whether there may be such a symbol; else nothing changes.
     fn add(&mut self, s: u16) -> bool
         ensures { (self.new.words ≡ sets.add self.old.words s) × (result ≡ ltb s 256) }
@@ -283,12 +290,8 @@ pub fn reached_of(table: &[u8], treed: &SymbolSet) -> SymbolSet
 pub fn takes_part(production: Production, treed: &SymbolSet, reached: &SymbolSet) -> bool
     ensures { result ≡ rule.takes_part treed.now.words reached.now.words production }
 {
-    reached.has(production.left)
-        && production
-            .slots
-            .iter()
-            .take(usize::from(production.n))
-            .all(|s| treed.has(*s))
+    let count = usize::from(production.n).min(SLOTS);
+    reached.has(production.left) && treed.has_each(&production.slots[..count])
 }
 
 // ---- both sets
