@@ -12,7 +12,6 @@ use Rattle.numbers.specs.Lists.{up_from}
 use Rattle.numbers.proofs.Bytes.{byte_past, le2_past, byte_in_part, le2_in_part}
 use Rattle.numbers.proofs.Keeping.{map_same}
 use Rattle.numbers.proofs.Ranges.{length_up_from, at_below, at_past}
-use Rattle.grammar.specs.declared.Production.{Production}
 use Rattle.grammar.specs.Grammar.{symbol, production, rights, no_symbol, no_production}
 use Rattle.grammar.specs.Table.{N, P, E, at_symbols, at_productions, at_edges, symbol_in, production_in, edge_in, grammar_of}
 use Rattle.grammar.specs.Rules.{edge, no_edge}

@@ -36,9 +36,9 @@ pub fn offsets_of(table: &[u8]) -> Offsets
     ensures { result ≡ offsets_of table.now }
 {
     let h = header_of(table);
-    let productions = HEADER_BYTES + SYMBOL_BYTES * (h.symbols as usize);
-    let edges = productions + PRODUCTION_BYTES * (h.productions as usize);
-    let total = edges + EDGE_BYTES * (h.edges as usize);
+    let productions = HEADER_BYTES + SYMBOL_BYTES * usize::from(h.symbols);
+    let edges = productions + PRODUCTION_BYTES * usize::from(h.productions);
+    let total = edges + EDGE_BYTES * usize::from(h.edges);
     Offsets {
         symbols: HEADER_BYTES as u32,
         productions: productions as u32,

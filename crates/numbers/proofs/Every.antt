@@ -6,9 +6,21 @@ use Prim.Native.Nat.{ℕ, ◌+◌, ◌≤◌, ◌<◌}
 use native.Mathlib.Numerals.{add-one}
 use lib.ListN.{length, get_or, drop, drop_of_length-le}
 use lib.Seq.{drop-cons}
+use Rattle.std.specs.Prelude.{◌&&◌}
+use Rattle.std.specs.List.{list_all}
 use Rattle.numbers.specs.Lists.{both, every}
 
 module _ {A : Type 0} (f : A → Bool) where
+  -- what `all` of an iterator answers
+  pub every_is : (l : List A) → list_all f l ≡ every f l
+  unfolding every both
+  every_is [] = refl
+  every_is (x ∷ l) = go (f x) (every_is l)
+    where
+      go : {a b : Bool} (t : Bool) → a ≡ b → (t && a) ≡ both t b
+      go true e = e
+      go false e = refl
+
   pub every_none : every f [] ≡ true
   unfolding every
   every_none = refl

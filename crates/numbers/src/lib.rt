@@ -8,7 +8,7 @@ ghost use Rattle.numbers.specs.Number.{le2, le4};
 pub fn byte_at(b: &[u8], i: usize) -> u8
     ensures { result ≡ get_or b.now i 0 }
 {
-    if i < b.len() { b[i] } else { 0 }
+    b.get(i).copied().unwrap_or(0)
 }
 
 // The byte after i. Past the end i + 1 need not be a usize.
@@ -22,7 +22,7 @@ fn byte_after(b: &[u8], i: usize) -> u8
 pub fn two_at(b: &[u8], i: usize) -> u16
     ensures { result ≡ le2 b.now i }
 {
-    byte_at(b, i) as u16 + 256 * (byte_after(b, i) as u16)
+    u16::from_le_bytes([byte_at(b, i), byte_after(b, i)])
 }
 
 // The two bytes after those at i, likewise.
@@ -36,18 +36,18 @@ fn two_after(b: &[u8], i: usize) -> u16
 pub fn four_at(b: &[u8], i: usize) -> u32
     ensures { result ≡ le4 b.now i }
 {
-    two_at(b, i) as u32 + 65536 * (two_after(b, i) as u32)
+    u32::from(two_at(b, i)) + 65536 * u32::from(two_after(b, i))
 }
 
-// A number of 16 bits as an index. Of an element of an array only a function knows that it has 16 bits.
+// A number of 16 bits as an index.
 pub fn wide(x: u16) -> usize
     ensures { result ≡ x }
 {
-    x as usize
+    usize::from(x)
 }
 
 pub fn smaller(a: usize, b: usize) -> usize
     ensures { result ≡ min a b }
 {
-    if a <= b { a } else { b }
+    a.min(b)
 }

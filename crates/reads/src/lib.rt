@@ -13,52 +13,36 @@ use grammar::{
 use numbers::four_at;
 
 // Rule 2: the counts and the start symbol.
+#[tactic(auto, unfolding(grammar::specs::Refusal::counts_ok, numbers::specs::Lists::both))]
 pub fn counts_ok(table: &[u8]) -> bool
     ensures { result ≡ counts_ok table.now }
 {
     let h = tables::header_of(table);
-    if h.symbols < 1 {
-        return false;
-    }
-    if MOST_SYMBOLS < h.symbols {
-        return false;
-    }
-    if MOST_PRODUCTIONS < h.productions {
-        return false;
-    }
-    if MOST_EDGES < h.edges {
-        return false;
-    }
-    h.start < h.symbols
+    1 <= h.symbols
+        && h.symbols <= MOST_SYMBOLS
+        && h.productions <= MOST_PRODUCTIONS
+        && h.edges <= MOST_EDGES
+        && h.start < h.symbols
 }
 
 // Rule 3: the offsets and the total.
+#[tactic(auto, unfolding(grammar::specs::Refusal::offsets_ok, numbers::specs::Lists::both))]
 pub fn offsets_ok(table: &[u8]) -> bool
     ensures { result ≡ offsets_ok table.now }
 {
     let o = tables::offsets_of(table);
-    if four_at(table, 8) != o.symbols {
-        return false;
-    }
-    if four_at(table, 12) != o.productions {
-        return false;
-    }
-    if four_at(table, 16) != o.edges {
-        return false;
-    }
-    if four_at(table, 20) != o.total {
-        return false;
-    }
-    o.total as usize == table.len()
+    four_at(table, 8) == o.symbols
+        && four_at(table, 12) == o.productions
+        && four_at(table, 16) == o.edges
+        && four_at(table, 20) == o.total
+        && o.total as usize == table.len()
 }
 
+#[tactic(auto, unfolding(grammar::specs::Refusal::symbol_ok, numbers::specs::Lists::both))]
 fn symbol_ok(s: Symbol) -> bool
     ensures { result ≡ symbol_ok attributes s }
 {
-    if ATTRIBUTES < s.count as usize {
-        return false;
-    }
-    s.mask < 1u16 << s.count
+    usize::from(s.count) <= ATTRIBUTES && s.mask < 1u16 << s.count
 }
 
 // The symbol s, by rule 4.
@@ -74,36 +58,21 @@ pub fn read_symbol(table: &[u8], s: usize) -> Result<Symbol, Rule>
     }
 }
 
-// The slots from `from` on, and before `end`, are below `bound`.
-fn slots_below(slots: [u16; SLOTS], from: u16, end: u16, bound: u16) -> bool
-    requires { (from ≤ end) × (end ≤ 7) }
-    ensures { result ≡ every (λ s. ltb s bound) (drop from (take end slots)) }
+fn slots_below(slots: &[u16], bound: u16) -> bool
+    ensures { result ≡ every (λ s. ltb s bound) slots.now }
 {
-    let mut k = from as usize;
-    while k < end as usize {
-        if bound <= slots[k] {
-            return false;
-        }
-        k += 1;
-    }
-    true
+    slots.iter().all(|s| *s < bound)
 }
 
 // The right symbols are there, and the slots after them are 0.
 fn production_ok(p: Production, symbols: u16) -> bool
     ensures { result ≡ production_ok symbols p }
 {
-    if symbols <= p.left {
+    let n = usize::from(p.n);
+    if symbols <= p.left || SLOTS < n {
         return false;
     }
-    if SLOTS < p.n as usize {
-        return false;
-    }
-    let slots = p.slots;
-    if !slots_below(slots, 0, p.n, symbols) {
-        return false;
-    }
-    slots_below(slots, p.n, SLOTS as u16, 1)
+    slots_below(&p.slots[..n], symbols) && slots_below(&p.slots[n..], 1)
 }
 
 // The production p, by rule 5.

@@ -13,7 +13,7 @@ use grammar::{
     SYMBOL_BYTES, Symbol,
 };
 pub use headers::{header_of, offsets_of};
-use numbers::{byte_at, smaller, two_at};
+use numbers::{byte_at, two_at};
 
 // A record that is there whole is read out of a slice of its own length, which the compiler knows: then no byte is asked for whether it is
 // there. That is so only where such a slice has a call of its own, so each reader is called twice.
@@ -23,13 +23,13 @@ pub fn symbol_of(table: &[u8], s: usize) -> Symbol
     ensures { result ≡ symbol (grammar_of table.now) s }
 {
     let h = header_of(table);
-    if h.symbols as usize <= s {
+    if usize::from(h.symbols) <= s {
         return Symbol { count: 0, mask: 0 };
     }
     let at = HEADER_BYTES + SYMBOL_BYTES * s;
     Symbol {
         count: byte_at(table, at),
-        mask: byte_at(table, at + 1) as u16,
+        mask: u16::from(byte_at(table, at + 1)),
     }
 }
 
@@ -38,9 +38,8 @@ fn part_of(table: &[u8], at: usize, size: usize) -> &[u8]
     requires { at + size < 2 ^ 64 }
     ensures { result.now ≡ take size (drop at table.now) }
 {
-    let a = smaller(at, table.len());
-    let e = smaller(at + size, table.len());
-    &table[a..e]
+    let whole = table.len();
+    &table[at.min(whole)..(at + size).min(whole)]
 }
 
 fn production_from(bytes: &[u8]) -> Production
@@ -79,7 +78,7 @@ pub fn production_of(table: &[u8], p: usize) -> Production
     ensures { result ≡ production (grammar_of table.now) p }
 {
     let h = header_of(table);
-    if h.productions as usize <= p {
+    if usize::from(h.productions) <= p {
         let slots = [0u16; SLOTS];
         return Production {
             left: 0,
@@ -158,11 +157,11 @@ fn step_further(table: &[u8], h: Header, o: Offsets, p: usize, step: usize, at: 
     ensures { result ≡ further table.now p step at }
 {
     let next = at + step;
-    if (h.edges as usize) < next {
+    if usize::from(h.edges) < next {
         return at;
     }
     let last = two_at(table, o.edges as usize + EDGE_BYTES * (next - 1));
-    if (last as usize) < p { next } else { at }
+    if usize::from(last) < p { next } else { at }
 }
 
 // From the edge `from` on, the first that is not of a production below p, by halving.
@@ -171,9 +170,7 @@ fn seek_from(table: &[u8], h: Header, o: Offsets, p: usize, from: usize) -> usiz
     ensures { (result ≡ seek 16 table.now p from) × (from ≤ result) × (result ≤ h.edges) }
 {
     let mut at = from;
-    let mut k: usize = 16;
-    while 0 < k {
-        k -= 1;
+    for k in (0..16usize).rev() {
         at = step_further(table, h, o, p, 1usize << k, at);
     }
     at
@@ -184,7 +181,7 @@ pub fn run_of(table: &[u8], p: usize) -> &[u8]
     ensures { result.now ≡ run_of table.now p }
 {
     let h = header_of(table);
-    if h.productions as usize <= p {
+    if usize::from(h.productions) <= p {
         return &table[..0];
     }
     let o = offsets_of(table);

@@ -6,8 +6,8 @@ use Rattle.grammar.specs.Table.{production_in}
 use Rattle.grammar.proofs.Lookups.{production_there, production_none}
 use Rattle.tables.proofs.production_of.Goals as goal
 
-pub returns-then-h-p : goal.returns-then-h-p
-returns-then-h-p c =
+pub returns-then-from-p : goal.returns-then-from-p
+returns-then-from-p c =
     let a = c.args in
     let many = ap (λ h. h.productions) c.header_of-h.ensures in
     sym (production_none a.table.now a.p (omega arith))

@@ -6,8 +6,8 @@ use lib.ListN.{take, drop}
 use Rattle.grammar.proofs.Seeking.{run_none, run_found}
 use Rattle.tables.proofs.run_of.Goals as goal
 
-pub returns-then-h-p : goal.returns-then-h-p
-returns-then-h-p c =
+pub returns-then-from-p : goal.returns-then-from-p
+returns-then-from-p c =
     let many = ap (λ h. h.productions) c.header_of-h.ensures in
     sym (run_none c.args.table.now c.args.p (omega arith))
 

@@ -1,19 +1,10 @@
 -- `tables::seek_from` meets its contract. The steps that are left, from where the search stands, lead where all of them lead. Assumes nothing.
-use mathlib.Core.Path.{◌≡◌, refl, sym, ap, ◌∙◌}
+use mathlib.Core.Path.{◌≡◌, sym, ap, ◌∙◌}
 use Prim.Native.Nat.{◌-◌, ◌^◌}
 use native.Mathlib.Omega.{arith}
-use borrow.Author.Rules.{rules}
 use Rattle.grammar.specs.Search.{further, seek}
-use Rattle.grammar.proofs.Seeking.{further_ahead, further_inside, seek_none, seek_more, shifted, step_range}
+use Rattle.grammar.proofs.Seeking.{further_ahead, further_inside, seek_none, seek_more, shifted}
 use Rattle.tables.proofs.seek_from.Goals as goal
-
-pub loop-k-init : goal.loop-k-init
-loop-k-init c = (search rules, search rules, search rules, refl)
-
-pub step_further-at-requires : goal.step_further-at-requires
-step_further-at-requires c =
-    let r = step_range (c.loop-k.k - 1) (omega arith) in
-    (c.requires.0, c.requires.1, omega arith, omega arith, c.loop-k.invariant.2)
 
 pub loop-k-preserved : goal.loop-k-preserved
 loop-k-preserved c =
@@ -23,17 +14,16 @@ loop-k-preserved c =
     let at = c.loop-k.at in
     let edges = ap (λ h. h.edges) c.requires.0 in
     let e = c.step_further-at.ensures ∙ ap (λ s. further bs a.p s at) (shifted (k - 1) (omega arith)) in (
-      search rules,
       omega (arith, further_ahead bs a.p (2 ^ (k - 1)) at),
       omega (arith, further_inside bs a.p (2 ^ (k - 1)) at (omega arith)),
-      ap (seek (k - 1) bs a.p) e ∙ sym (seek_more bs a.p at k (omega arith)) ∙ c.loop-k.invariant.3,
+      ap (seek (k - 1) bs a.p) e ∙ sym (seek_more bs a.p at k (omega arith)) ∙ c.loop-k.invariant.2,
     )
 
 pub returns : goal.returns
 returns c =
     let a = c.args in
     let k : c.loop-k.k ≡ 0 = omega arith in (
-      sym (seek_none a.table.now a.p c.loop-k.at) ∙ ap (λ k. seek k a.table.now a.p c.loop-k.at) (sym k) ∙ c.loop-k.invariant.3,
-      search rules,
-      search rules,
+      sym (seek_none a.table.now a.p c.loop-k.at) ∙ ap (λ k. seek k a.table.now a.p c.loop-k.at) (sym k) ∙ c.loop-k.invariant.2,
+      c.loop-k.invariant.0,
+      c.loop-k.invariant.1,
     )

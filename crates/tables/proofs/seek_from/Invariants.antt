@@ -5,8 +5,4 @@ use Rattle.grammar.specs.Search.{seek}
 use Rattle.tables.proofs.seek_from.Given as goal
 
 abbrev pub invariant-loop-k : goal.invariant-loop-k
-invariant-loop-k l =
-    (l.k ≤ 16) × (l.from ≤ l.at) × (l.at ≤ l.h.edges) × (seek l.k l.table l.p l.at ≡ seek 16 l.table l.p l.from)
-
-abbrev pub decreases-loop-k : goal.decreases-loop-k
-decreases-loop-k l = l.k
+invariant-loop-k l = (l.from ≤ l.at) × (l.at ≤ l.h.edges) × (seek l.k l.table l.p l.at ≡ seek 16 l.table l.p l.from)

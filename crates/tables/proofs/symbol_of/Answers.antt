@@ -6,8 +6,8 @@ use Rattle.grammar.specs.Table.{symbol_in}
 use Rattle.grammar.proofs.Lookups.{symbol_there, symbol_none}
 use Rattle.tables.proofs.symbol_of.Goals as goal
 
-pub returns-then-h-s : goal.returns-then-h-s
-returns-then-h-s c =
+pub returns-then-from-s : goal.returns-then-from-s
+returns-then-from-s c =
     let a = c.args in
     let many = ap (λ h. h.symbols) c.header_of-h.ensures in
     sym (symbol_none a.table.now a.s (omega arith))
@@ -17,5 +17,6 @@ unfolding symbol_in
 returns c =
     let a = c.args in
     let many = ap (λ h. h.symbols) c.header_of-h.ensures in
-    let r : record { count = c.byte_at.result; mask = c.byte_at-2.result } ≡ symbol_in a.table.now (24 + 2 * a.s) = λ i. record { count = c.byte_at.ensures i; mask = c.byte_at-2.ensures i } in
+    let mask = c.from-2.ensures ∙ c.byte_at-2.ensures in
+    let r : record { count = c.byte_at.result; mask = c.from-2.result } ≡ symbol_in a.table.now (24 + 2 * a.s) = λ i. record { count = c.byte_at.ensures i; mask = mask i } in
     r ∙ sym (symbol_there a.table.now a.s (omega arith))
