@@ -1,10 +1,9 @@
 // What Rust and C are given as numbers: what a check says, a path or a circle, and a report.
 #![tactic(auto)]
 
-ghost use Rattle.std.specs.Prelude.{◌≡◌, ◌≤◌, length, get_or};
-ghost use Rattle.graph.specs.Parts.{most_nodes};
+ghost use Rattle.std.specs.Prelude.{◌≡◌, length};
 ghost use Rattle.rules.specs.Passes.{number_of, value_of};
-ghost use Rattle.flats.specs.Flat.{flat_check, trail_numbers, flat_trail, Begun, flat};
+ghost use Rattle.flats.specs.Flat.{flat_check, trail_numbers, flat_trail, flat};
 
 use grammar::{Broken, NODES, SLOTS};
 use graph::Trail;
@@ -58,26 +57,16 @@ fn value_of(answer: Answer) -> u32
     }
 }
 
-// The nodes and the marks of the links from `from` on and below `to`, where those before stand already.
-fn links_in(trail: &Trail, out: &mut [u32], from: usize, to: usize)
-    requires { (from ≤ to) × (to ≤ most_nodes) × Begun trail.now.nodes trail.now.marks (get_or out.old 0 0) from out.old }
-    ensures { Begun trail.now.nodes trail.now.marks (get_or out.old 0 0) to out.new }
-{
-    for i in from..to {
-        out[1 + i] = u32::from(trail.nodes[i]);
-        out[1 + NODES + i] = u32::from(trail.marks[i]);
-    }
-}
-
-// In two parts, since a loop over a constant count is written out at length, which takes 256 bytes more of the stack.
+// A path or a circle in the numbers of a lent slice: of a part of a report, or of an array.
 fn trail_in(trail: &Trail, out: &mut [u32])
     requires { length out.old ≡ trail_numbers }
     ensures { out.new ≡ flat_trail trail.now }
 {
     out[0] = u32::from(trail.len);
-    let n = usize::from(trail.len).min(NODES);
-    links_in(trail, out, 0, n);
-    links_in(trail, out, n, NODES);
+    for i in 0..NODES {
+        out[1 + i] = u32::from(trail.nodes[i]);
+        out[1 + NODES + i] = u32::from(trail.marks[i]);
+    }
 }
 
 // A path or a circle in numbers, left in the lent array.
