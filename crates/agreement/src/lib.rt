@@ -41,6 +41,7 @@ fn as_told(row: &[Entry], at: usize, stored: u16, entries: Entries<'_>) -> bool
 fn alike(row: &[Entry], stored: u16, entries: Entries<'_>) -> bool
     ensures { (result ≡ true) ↔ Alike (read entries.entry) stored row.now }
 {
+    // By a loop: with `all` over the places the proof was not found.
     for at in 0..row.len() {
         if !as_told(row, at, stored, entries) {
             return false;

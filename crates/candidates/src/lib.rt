@@ -8,6 +8,7 @@ ghost use Rattle.candidates.specs.Next.{next_of};
 pub fn next_candidate(symbols: &[u16], symbol: u16, from: usize, first: usize) -> Option<usize>
     ensures { result ≡ next_of symbols.now symbol from first }
 {
+    // By a loop: with `position` over a part of the slice the proof was not found.
     for e in from..first.min(symbols.len()) {
         if symbols[e] == symbol {
             return Some(e);

@@ -56,6 +56,7 @@ fn read_input<R: Read>(input: &mut R, buf: &mut [u8]) -> Result<usize, Failure>
     ensures bytes { Taken (R.remaining input.old) (R.remaining input.new) result buf.new }
 {
     let mut at = 0;
+    // The step is what a read gave; `read_exact` would refuse a short input.
     while at < buf.len() {
         let n = input.read(&mut buf[at..]).map_err(|_| Failure::Unread)?;
         if n == 0 {

@@ -57,12 +57,13 @@ fn value_of(answer: Answer) -> u32
     }
 }
 
-// A path or a circle in the numbers of a lent slice: of a part of a report, or of an array.
+// A path or a circle in the numbers of a lent slice: of a part of a report, which is no array, or of an array.
 fn trail_in(trail: &Trail, out: &mut [u32])
     requires { length out.old ≡ trail_numbers }
     ensures { out.new ≡ flat_trail trail.now }
 {
     out[0] = u32::from(trail.len);
+    // By index, as it is written: after a write through `iter_mut` only the length would be known.
     for i in 0..NODES {
         out[1 + i] = u32::from(trail.nodes[i]);
         out[1 + NODES + i] = u32::from(trail.marks[i]);

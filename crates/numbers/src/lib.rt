@@ -39,7 +39,8 @@ pub fn four_at(b: &[u8], i: usize) -> u32
     u32::from(two_at(b, i)) + 65536 * u32::from(two_after(b, i))
 }
 
-// A number of 16 bits as an index.
+// A number of 16 bits as an index. This and the next stand for who calls the library, with theorems of their own; the crates above say
+// `usize::from` and `min`.
 pub fn wide(x: u16) -> usize
     ensures { result ≡ x }
 {

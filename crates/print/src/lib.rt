@@ -67,6 +67,7 @@ impl Page<'_> {
         ensures { Placed (entry_lines (kids_in table.now) 0 (entries_to (read entries.entry) count))
             (line_bytes * count) self.old self.new }
     {
+        // By number, which is printed.
         for i in 0..count {
             self.entry_line(table, entries, i);
         }
@@ -85,6 +86,7 @@ impl Page<'_> {
             (link_bytes * most_nodes) self.old self.new }
     {
         let count = NODES.min(usize::from(circle.len));
+        // By index, as the nodes and the marks are told (`links_text`).
         for i in 0..count {
             self.at = lines::put_link(self.buf, self.at, circle.nodes[i], circle.marks[i]);
         }

@@ -18,6 +18,7 @@ fn store(row: &mut [Entry], entries: Entries<'_>, n: usize)
     requires { (n ≤ length row.old) × (n ≤ room_of (read entries)) }
     ensures { row.new ≡ written (entries_to (read entries.entry) n) row.old }
 {
+    // By index: after a write through `iter_mut` no more of the row would be known than its length.
     for i in 0..n {
         row[i] = entries.entry(i);
     }
@@ -38,6 +39,7 @@ fn run(table: &[u8], limit: u32, row: &mut [Entry], part: &mut Store<'_>) -> Rep
 pub fn test(table: &[u8], limit: u32, entries: &mut [Entry]) -> Report
     ensures { RowTested table.now limit entries.old result entries.new }
 {
+    // Four arrays, since the test is over four slices, as C lends them, and there is no heap.
     let mut symbols = [0u16; MOST_ENTRIES];
     let mut graphs = [0u64; MOST_ENTRIES];
     let mut productions = [0u16; MOST_ENTRIES];

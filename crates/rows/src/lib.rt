@@ -7,6 +7,7 @@ ghost use Rattle.rules.specs.Passes.{entry, no_entry};
 use grammar::SLOTS;
 use rules::Entry;
 
+// The entry of zeros; `steps`, which knows no row, writes it out once more.
 fn no_entry() -> Entry
     ensures { result ≡ no_entry }
 {

@@ -19,7 +19,7 @@ pub enum Answer {
 }
 
 // Where the answer is circular, `root` holds the entry numbers of the root's right symbols, and `circle` the circle of its compound graph;
-// elsewhere both hold 0.
+// elsewhere both hold 0. They stand beside the answer, since the numbers of a report are promised whatever its answer is (`flats`).
 #[derive(Clone, Copy, PartialEq, Eq)]
 pub struct Report {
     pub answer: Answer,

@@ -96,6 +96,7 @@ impl Entries<'_> {
             (least self.entry.symbols.now self.entry.graphs.now stored) }
     {
         let both = stored.min(self.symbols.len()).min(self.graphs.len());
+        // By number, since two slices are gone down together.
         for k in (0..both).rev() {
             if self.symbols[k] == symbol && self.graphs[k] == graph {
                 return true;

@@ -164,7 +164,8 @@ fn step_further(table: &[u8], h: Header, o: Offsets, p: usize, step: usize, at: 
     if usize::from(last) < p { next } else { at }
 }
 
-// From the edge `from` on, the first that is not of a production below p, by halving.
+// From the edge `from` on, the first that is not of a production below p, by halving. The table is bytes, in which no slice of records
+// stands that a library's search would go over.
 fn seek_from(table: &[u8], h: Header, o: Offsets, p: usize, from: usize) -> usize
     requires { (h ≡ header_of table.now) × (o ≡ offsets_of table.now) × (from ≤ h.edges) }
     ensures { (result ≡ seek 16 table.now p from) × (from ≤ result) × (result ≤ h.edges) }

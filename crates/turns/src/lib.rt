@@ -26,7 +26,7 @@ fn put(numbers: &mut [u16], place: usize, entry: u16)
 }
 
 // Whether each of the first `count` right symbols has a candidate below `first`. The first of each is left in `firsts`, from the last place
-// down as far as there is one.
+// down as far as there is one: that is promised where the answer is false too, so it is no option.
 pub fn first_candidates(
     symbols: &[u16],
     rights: &[u16; SLOTS],
@@ -47,7 +47,8 @@ pub fn first_candidates(
 }
 
 // The next combination, whose last place changes fastest: of the first `count` right symbols the last that has a further candidate below
-// `first` moves on to it, and those after it begin again at their firsts. Whether there was one.
+// `first` moves on to it, and those after it begin again at their firsts. Whether there was one; where there was none, all
+// stand at their firsts, as is promised too.
 pub fn next_combination(
     symbols: &[u16],
     rights: &[u16; SLOTS],

@@ -48,7 +48,7 @@ impl SymbolSet {
         symbols.iter().all(|s| self.has(*s))
     }
 
-    // Whether there may be such a symbol; else nothing changes.
+    // Whether there may be such a symbol; else nothing changes. A bool, as the insertion of the library's sets gives.
     fn add(&mut self, s: u16) -> bool
         ensures { (self.new.words ≡ sets.add self.old.words s) × (result ≡ ltb s 256) }
     {
@@ -79,6 +79,7 @@ impl<'a> Model for Record<'a> {
     ghost invariant = { λ r. length r.bytes.now ≡ 18 };
 }
 
+// Without asking whether the bytes are there, as `numbers::two_at` does: a walk reads every production.
 fn two_in(bytes: &[u8], at: usize) -> u16
     requires { at + 1 < length bytes.now }
     ensures { result ≡ le2 bytes.now at }
