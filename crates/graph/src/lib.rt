@@ -4,7 +4,7 @@
 use grammar::NODES;
 
 // A path or a circle: its nodes, beside each 1 where the link that leaves it is an edge of the production and 0 where it is a subtree's pair,
-// and how many they are. The places beyond are 0.
+// and how many they are. The places beyond are 0. In fixed places and by numbers, as C is given them: there is no heap.
 #[derive(Clone, Copy, PartialEq, Eq)]
 pub struct Trail {
     pub nodes: [u8; NODES],
