@@ -11,7 +11,7 @@ use compounds::ATTRIBUTE_BITS;
 pub use compounds::{compound, own_rows, place};
 use grammar::{ATTRIBUTES, NODES, OCCURRENCES, SLOTS};
 
-// What one closure gives.
+// What one closure gives: both, whether there is a circle or not.
 #[derive(Clone, Copy, PartialEq, Eq)]
 pub struct Closed {
     pub circle: bool,
@@ -26,7 +26,7 @@ fn joined(k: usize, via: u64, row: u64) -> u64
     if (row >> k) & 1 == 1 { row | via } else { row }
 }
 
-// The step through node k, whose row is `via`, in all rows.
+// The step through node k, whose row is `via`, in all rows. By index, of which the wrong steps that must fail speak.
 fn step_through(rows: &mut [u64], k: usize, via: u64)
     requires { k < most_nodes }
     ensures { rows.new ≡ map (through k via) rows.old }

@@ -1,5 +1,5 @@
 // The library for C, and for Rust by way of C: each function of `kusillaqe` under its name there, with the same contract. A slice crosses
-// as its address and its length, an array as its address.
+// as its address and its length, an array as its address. A crate is a library or a static library and not both, so each stands twice.
 #![tactic(auto)]
 
 ghost use Rattle.std.specs.Prelude.{◌≡◌, ◌*◌, take, replicate};
