@@ -67,7 +67,9 @@ module _ (bs : List ℕ) (es : List Entry) (gs : List ℕ) (are : gs ≡ map (λ
 front : (es : List Entry) (after before : List ℕ) (n : ℕ) → after ≡ written (map (λ e. e.graph) es) before → n ≡ length es
     → take n after ≡ map (λ e. e.graph) es
 front es after before n e l =
-    ap (take n) e ∙ take_at (map (λ e. e.graph) es) (drop (length (map (λ (e : Entry). e.graph) es)) before) n (omega (arith, length-map es (λ (e : Entry). e.graph)))
+    ap (take n) e
+    ∙ take_at (map (λ e. e.graph) es) (drop (length (map (λ (e : Entry). e.graph) es)) before) n
+    (omega (arith, length-map es (λ (e : Entry). e.graph)))
 
 -- the report with its circle tells what the passes give, and the circle
 pub saying_told : (bs : List ℕ) (o : Outcome) (σ : Slices) (r : Report) (τ : Slices) → o.report.entries ≡ length o.entries → Tells o σ r τ

@@ -5,6 +5,10 @@ use mathlib.Core.List.{List, [], ◌∷◌, ◌++◌}
 use Prim.Native.Nat.{ℕ, ◌+◌, ◌-◌, ◌≤◌, ◌<◌}
 use native.Mathlib.Omega.{arith}
 use Rattle.numbers.specs.Lists.{up_from, keep}
+use Rattle.grammar.specs.Grammar.{production}
+use Rattle.grammar.specs.Table.{grammar_of}
+use Rattle.parts.specs.Sets.{Symbols}
+use Rattle.parts.specs.Rule.{takes_part}
 use Rattle.numbers.proofs.Keeping.{up_more, keep_append}
 use Rattle.std.specs.Prelude.{Result, Ok, Err}
 use Rattle.steps.specs.declared.Run.{Run}
@@ -13,6 +17,10 @@ use Rattle.rules.specs.Passes.{System, State, Ran, going, and_then, turn, pass}
 use Rattle.passes.specs.Slices.{Slices}
 use Rattle.passes.specs.Follow.{Follows}
 use Rattle.passes.proofs.Following.{follows_nothing, follows_stopped, follows_then, follows_same, pass_append, pass_one, pass_none}
+
+-- whether a production of a table takes part, by its number and the two sets
+abbrev pub part_by : Symbols → Symbols → List ℕ → ℕ → Bool
+part_by treed reached bs p = takes_part treed reached (production (grammar_of bs) p)
 
 module _ (W : System) (room : ℕ) (part : ℕ → Bool) where
   -- the rule of a pass over the productions of a list that take part

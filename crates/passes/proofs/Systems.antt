@@ -89,7 +89,8 @@ module _ (W : System) (k : Task) (rights edges : List ℕ) (agrees : Agrees W k 
       let es = entries_to σ first in
       let long : length (take k.count rights) ≡ k.count = length-take-le k.count rights slots in
       ap combinations
-      (map_same (λ j. candidates_from (of_symbol σ.symbols rights) first k.count j 0) (λ j. candidates es (get_or (take k.count rights) j 0)) 0 (k.count - 0)
+      (map_same (λ j. candidates_from (of_symbol σ.symbols rights) first k.count j 0)
+      (λ j. candidates es (get_or (take k.count rights) j 0)) 0 (k.count - 0)
       (λ j a b. sym (candidates_are σ first rights k.count j) ∙ ap (candidates es) (sym (get_or-take k.count rights j 0 (omega (arith, b)))))
       ∙ ap (λ (n : ℕ). map (λ j. candidates es (get_or (take k.count rights) j 0)) (up_from 0 n)) (sub-zero k.count ∙ sym long)
       ∙ sym (by_places (candidates es) (take k.count rights))

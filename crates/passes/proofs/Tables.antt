@@ -52,7 +52,8 @@ module _ (bs : List ℕ) (good : refusal bs ≡ Ok tt) where
         rights_are = refl;
         long = length-take-le (production g p).n (production g p).slots (omega (arith, few_rights bs good p, slots_seven bs p));
         graph =
-            λ gs h. ap (λ (l : List ℕ). root_graph 8 (closed_over l gs)) own ∙ ap (λ (l : List ℕ). root_graph 8 (closure l)) (rows_made bs good p gs h);
+            λ gs h. ap (λ (l : List ℕ). root_graph 8 (closed_over l gs)) own
+            ∙ ap (λ (l : List ℕ). root_graph 8 (closure l)) (rows_made bs good p gs h);
         circle =
             λ gs h. ap (λ (l : List ℕ). has_circle (closed_over l gs)) own ∙ ap (λ (l : List ℕ). has_circle (closure l)) (rows_made bs good p gs h);
       }
@@ -80,6 +81,8 @@ module _ (bs : List ℕ) (good : refusal bs ≡ Ok tt) where
     task_turn k made rights are edges is τ q f =
         turn_follows (system_in bs) (task_of p (production g p) room) (production g p).slots (run_of bs p) (agrees p room)
         (omega (arith, few_rights bs good p, slots_seven bs p)) σ r τ q
-        (subst (λ (l : List ℕ). Follows room (over (task_of p (production g p) room) (production g p).slots l (combos_in (task_of p (production g p) room) (production g p).slots r.stored σ.symbols)) σ r τ q) is
-        (subst (λ (l : List ℕ). Follows room (over (task_of p (production g p) room) l edges (combos_in (task_of p (production g p) room) l r.stored σ.symbols)) σ r τ q) are
+        (subst (λ (l : List ℕ). Follows room (over (task_of p (production g p) room) (production g p).slots l
+        (combos_in (task_of p (production g p) room) (production g p).slots r.stored σ.symbols)) σ r τ q) is
+        (subst (λ (l : List ℕ). Follows room (over (task_of p (production g p) room) l edges
+        (combos_in (task_of p (production g p) room) l r.stored σ.symbols)) σ r τ q) are
         (subst (λ (t : Task). Follows t.room (over t rights edges (combos_in t rights r.stored σ.symbols)) σ r τ q) made f)))

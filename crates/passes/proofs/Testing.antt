@@ -23,17 +23,16 @@ use Rattle.passes.specs.Follow.{parts_among}
 
 module _ (bs : List ℕ) where
   -- the list that a pass goes over
-  taking_is : (count : ℕ) (T R : Symbols) → refusal bs ≡ Ok tt → count ≡ P bs → T ≡ if_whole bs (treed (grammar_of bs))
-      → R ≡ if_whole bs (reached (grammar_of bs) T) → parts_among T R (grammar_of bs) (up_from 0 count) ≡ taking (grammar_of bs)
+  pub taking_is : (T R : Symbols) → refusal bs ≡ Ok tt → T ≡ if_whole bs (treed (grammar_of bs))
+      → R ≡ if_whole bs (reached (grammar_of bs) T) → parts_among T R (grammar_of bs) (up_from 0 (P bs)) ≡ taking (grammar_of bs)
   unfolding taking
-  taking_is count T R h c t r =
-      rw (r ∙ valid_whole bs (valid bs h) _, t ∙ valid_whole bs (valid bs h) _, productions_many bs, c)
+  taking_is T R h t r =
+      rw (r ∙ valid_whole bs (valid bs h) _, t ∙ valid_whole bs (valid bs h) _, productions_many bs)
 
-  -- what the passes go over is what takes part
-  pub passes_taken : (limit room count : ℕ) (T R : Symbols) (σ : Slices) → refusal bs ≡ Ok tt → count ≡ P bs → room ≡ room_of σ
-      → T ≡ if_whole bs (treed (grammar_of bs)) → R ≡ if_whole bs (reached (grammar_of bs) T)
-      → passes (system_in bs) limit room (parts_among T R (grammar_of bs) (up_from 0 count)) ≡ passes (system_in bs) limit (room_of σ) (taking (grammar_of bs))
-  passes_taken limit room count T R σ h c e t r = rw (taking_is count T R h c t r, e)
+  -- the passes of a plan for this table and these slices
+  pub passes_taken : (limit : ℕ) {room : ℕ} {planned : List ℕ} (σ : Slices) → planned ≡ bs → room ≡ room_of σ
+      → passes (system_in planned) limit room (taking (grammar_of planned)) ≡ passes (system_in bs) limit (room_of σ) (taking (grammar_of bs))
+  passes_taken limit σ e h = rw (e, h)
 
   pub test_taken : (limit room : ℕ) → refusal bs ≡ Ok tt
       → saying (width_of bs) (grammar_of bs) (passes (system_in bs) limit room (taking (grammar_of bs))) ≡ test bs limit room

@@ -1,7 +1,7 @@
 // The circularity test: the passes over four parallel lent slices of numbers.
 #![tactic(auto)]
 
-ghost use Rattle.std.specs.Prelude.{◌≡◌, true, [], ◌∷◌, ◌≤◌, ◌<◌, length, take};
+ghost use Rattle.std.specs.Prelude.{◌≡◌, true, Ok, [], ◌∷◌, ◌≤◌, ◌<◌, length, take};
 ghost use Rattle.numbers.specs.Lists.{up_from};
 ghost use Rattle.grammar.specs.Table.{P, grammar_of};
 ghost use Rattle.grammar.specs.Refusal.{refusal};
@@ -97,61 +97,6 @@ fn task_of(number: usize, production: Production, room: usize) -> Task
     }
 }
 
-// One turn, if the production takes part. Where a right symbol has no entry it ends at once, whether it does or not.
-fn turn(
-    table: &[u8],
-    number: usize,
-    part: &TakingPart,
-    store: &mut Store<'_>,
-    room: usize,
-    run: Run,
-) -> Result<Run, Stop>
-    requires { (refusal table.now ≡ Ok tt) × (number < P table.now) × Roomy room (held store.old) run }
-    ensures follows { Follows room (λ limit. stated.pass (system_in table.now) limit room
-        (parts_among part.now.treed.words part.now.reached.words (grammar_of table.now) (number ∷ [])))
-        (held store.old) run
-        (held store.new) result }
-    ensures lent { Lent store.old store.new }
-{
-    let production = tables::production_of(table, number);
-    let rights = production.slots;
-    let count = usize::from(production.n);
-    let first = run.stored as u16;
-    let mut firsts = [0u16; SLOTS];
-    if !turns::first_candidates(store.entries().symbols, &rights, count, first, &mut firsts) {
-        return Ok(run);
-    }
-    if !part.has(&production) {
-        return Ok(run);
-    }
-    let edges = tables::run_of(table, number);
-    let task = task_of(number, production, room);
-    combine(store, edges, task, &rights, &firsts, run)
-}
-
-// One pass: the productions that take part, by number.
-fn pass(
-    table: &[u8],
-    count: usize,
-    part: &TakingPart,
-    store: &mut Store<'_>,
-    room: usize,
-    run: Run,
-) -> Result<Run, Stop>
-    requires { (refusal table.now ≡ Ok tt) × (count ≡ P table.now) × Roomy room (held store.old) run }
-    ensures follows { Follows room (λ limit. stated.pass (system_in table.now) limit room
-        (parts_among part.now.treed.words part.now.reached.words (grammar_of table.now) (up_from 0 count)))
-        (held store.old) run
-        (held store.new) result }
-    ensures lent { Lent store.old store.new }
-{
-    let mut now = run;
-    for number in 0..count {
-        now = turn(table, number, part, store, room, now)?;
-    }
-    Ok(now)
-}
-
 // The end after `begun` passes: the closures that are not left have been made.
 fn ended(stop: Stop, limit: u32, begun: u16) -> Ending
     requires { (stop.run.left ≤ limit) × (stop.run.stored ≤ 4096) }
@@ -167,92 +112,134 @@ fn ended(stop: Stop, limit: u32, begun: u16) -> Ending
     }
 }
 
-// Passes until one has stored nothing, or the run stops.
-fn passes(
-    table: &[u8],
-    count: usize,
-    part: &TakingPart,
-    store: &mut Store<'_>,
+// What the passes over a table that is not refused go by: the table, the productions that take part, and the room for entries.
+#[derive(Clone, Copy)]
+struct Plan<'a> {
+    table: &'a [u8],
+    part: TakingPart,
     room: usize,
-    limit: u32,
-) -> Ending
-    requires { (refusal table.now ≡ Ok tt) × (count ≡ P table.now) × (room ≡ room_of (held store.old)) }
-    ensures tells { Tells (stated.passes (system_in table.now) limit room
-        (parts_among part.now.treed.words part.now.reached.words (grammar_of table.now) (up_from 0 count)))
-        (held store.old) (unsaid result) (held store.new) }
-    ensures lent { Lent store.old store.new }
-{
-    let mut now = Run {
-        left: limit,
-        stored: 0,
-    };
-    let mut begun: u16 = 0;
-    loop {
-        let before = now.stored;
-        begun += 1;
-        now = match pass(table, count, part, store, room, now) {
-            Ok(now) => now,
-            Err(stop) => return ended(stop, limit, begun),
-        };
-        if now.stored == before {
-            let done = Stop {
-                answer: Answer::Noncircular,
-                root: [0u16; SLOTS],
-                run: now,
-            };
-            return ended(done, limit, begun);
+    ghost taken: { refusal table.now ≡ Ok tt },
+    ghost parts: { parts_among part.treed.words part.reached.words (grammar_of table.now) (up_from 0 (P table.now)) ≡ taking (grammar_of table.now) },
+}
+
+impl<'a> Plan<'a> {
+    fn of(table: &'a [u8], room: usize) -> Self
+        requires { refusal table.now ≡ Ok tt }
+        ensures { (result.table.now ≡ table.now) × (result.room ≡ room) }
+    {
+        Plan {
+            table,
+            part: TakingPart::of(table),
+            room,
         }
     }
-}
 
-// Where the answer is circular, the circle of the root, whose entries have these graphs.
-fn circle_said(table: &[u8], graphs: &[u64], root: [u16; SLOTS], answer: Answer) -> Trail
-    requires { refusal table.now ≡ Ok tt }
-    ensures { result ≡ circle_over table.now graphs.now root answer }
-{
-    match answer {
-        Answer::Circular(p) => circles::circle_of(table, graphs, usize::from(p), root),
-        _ => search::no_trail(),
+    // One turn, if the production takes part. Where a right symbol has no entry it ends at once, whether it does or not.
+    fn turn(&self, number: usize, store: &mut Store<'_>, run: Run) -> Result<Run, Stop>
+        requires { (number < P self.now.table.now) × Roomy self.now.room (held store.old) run }
+        ensures follows { Follows self.now.room (λ limit. stated.pass (system_in self.now.table.now) limit self.now.room
+            (parts_among self.now.part.treed.words self.now.part.reached.words (grammar_of self.now.table.now) (number ∷ [])))
+            (held store.old) run
+            (held store.new) result }
+        ensures lent { Lent store.old store.new }
+    {
+        let production = tables::production_of(self.table, number);
+        let rights = production.slots;
+        let count = usize::from(production.n);
+        let first = run.stored as u16;
+        let mut firsts = [0u16; SLOTS];
+        if !turns::first_candidates(store.entries().symbols, &rights, count, first, &mut firsts) {
+            return Ok(run);
+        }
+        if !self.part.has(&production) {
+            return Ok(run);
+        }
+        let edges = tables::run_of(self.table, number);
+        let task = task_of(number, production, self.room);
+        combine(store, edges, task, &rights, &firsts, run)
     }
-}
 
-// The report, with the circle. Only the graphs of stored entries are read.
-fn reported(table: &[u8], graphs: &[u64], ending: Ending) -> Report
-    requires { (refusal table.now ≡ Ok tt) × (ending.entries ≤ length graphs.now) }
-    ensures { result ≡ report_with
-        (circle_over table.now (take ending.entries graphs.now) ending.root ending.answer) (unsaid ending) }
-{
-    let Ending {
-        answer,
-        root,
-        closures,
-        entries,
-        passes,
-    } = ending;
-    let circle = circle_said(table, &graphs[..usize::from(entries)], root, answer);
-    Report {
-        answer,
-        closures,
-        entries,
-        passes,
-        root,
-        circle,
+    // One pass: the productions that take part, by number.
+    fn pass(&self, store: &mut Store<'_>, run: Run) -> Result<Run, Stop>
+        requires { Roomy self.now.room (held store.old) run }
+        ensures follows { Follows self.now.room
+            (λ limit. stated.pass (system_in self.now.table.now) limit self.now.room (taking (grammar_of self.now.table.now)))
+            (held store.old) run
+            (held store.new) result }
+        ensures lent { Lent store.old store.new }
+    {
+        let count = usize::from(tables::header_of(self.table).productions);
+        let mut now = run;
+        for number in 0..count {
+            now = self.turn(number, store, now)?;
+        }
+        Ok(now)
     }
-}
 
-// The passes over the productions of a table that take part.
-fn passes_over(table: &[u8], limit: u32, store: &mut Store<'_>) -> Ending
-    requires { refusal table.now ≡ Ok tt }
-    ensures tells { Tells (stated.passes (system_in table.now) limit (room_of (held store.old))
-        (taking (grammar_of table.now)))
-        (held store.old) (unsaid result) (held store.new) }
-    ensures lent { Lent store.old store.new }
-{
-    let room = store.entries().room();
-    let header = tables::header_of(table);
-    let count = usize::from(header.productions);
-    let part = TakingPart::of(table);
-    passes(table, count, &part, store, room, limit)
+    // Passes until one has stored nothing, or the run stops.
+    fn passes(&self, store: &mut Store<'_>, limit: u32) -> Ending
+        requires { self.now.room ≡ room_of (held store.old) }
+        ensures tells { Tells
+            (stated.passes (system_in self.now.table.now) limit self.now.room (taking (grammar_of self.now.table.now)))
+            (held store.old) (unsaid result) (held store.new) }
+        ensures lent { Lent store.old store.new }
+    {
+        let mut now = Run {
+            left: limit,
+            stored: 0,
+        };
+        let mut begun: u16 = 0;
+        loop {
+            let before = now.stored;
+            begun += 1;
+            now = match self.pass(store, now) {
+                Ok(now) => now,
+                Err(stop) => return ended(stop, limit, begun),
+            };
+            if now.stored == before {
+                let done = Stop {
+                    answer: Answer::Noncircular,
+                    root: [0u16; SLOTS],
+                    run: now,
+                };
+                return ended(done, limit, begun);
+            }
+        }
+    }
+
+    // Where the answer is circular, the circle of the root, whose entries have these graphs.
+    fn circle_said(&self, graphs: &[u64], root: [u16; SLOTS], answer: Answer) -> Trail
+        ensures { result ≡ circle_over self.now.table.now graphs.now root answer }
+    {
+        match answer {
+            Answer::Circular(p) => circles::circle_of(self.table, graphs, usize::from(p), root),
+            _ => search::no_trail(),
+        }
+    }
+
+    // The report, with the circle. Only the graphs of stored entries are read.
+    fn reported(&self, graphs: &[u64], ending: Ending) -> Report
+        requires { ending.entries ≤ length graphs.now }
+        ensures { result ≡ report_with
+            (circle_over self.now.table.now (take ending.entries graphs.now) ending.root ending.answer) (unsaid ending) }
+    {
+        let Ending {
+            answer,
+            root,
+            closures,
+            entries,
+            passes,
+        } = ending;
+        let circle = self.circle_said(&graphs[..usize::from(entries)], root, answer);
+        Report {
+            answer,
+            closures,
+            entries,
+            passes,
+            root,
+            circle,
+        }
+    }
 }
 
 // The circularity test of a table with at most `limit` closures. The stored entries are left at the front of the slices.
@@ -271,6 +258,7 @@ pub fn test(table: &[u8], limit: u32, store: &mut Store<'_>) -> Report
             circle: search::no_trail(),
         };
     }
-    let ending = passes_over(table, limit, store);
-    reported(table, store.entries().graphs, ending)
+    let plan = Plan::of(table, store.entries().room());
+    let ending = plan.passes(store, limit);
+    plan.reported(store.entries().graphs, ending)
 }

@@ -1,4 +1,4 @@
--- `passes::turn` meets its contract. Assumes nothing.
+-- `passes::Plan::turn` meets its contract. Assumes nothing.
 use mathlib.Core.Bool.{Bool, true, false}
 use mathlib.Core.List.{List}
 use mathlib.Core.Path.{◌≡◌, refl, sym, ap, ◌∙◌, subst}
@@ -24,9 +24,9 @@ use Rattle.turns.proofs.Turning.{begins}
 use Rattle.passes.specs.Slices.{Slices}
 use Rattle.passes.specs.Follow.{Follows, Roomy, task_of}
 use Rattle.passes.proofs.Combining.{over_none}
-use Rattle.passes.proofs.Passing.{part_turn, part_skip, part_still}
+use Rattle.passes.proofs.Passing.{part_by, part_turn, part_skip, part_still}
 use Rattle.passes.proofs.Tables.{few_productions, turn_ready, task_turn}
-use Rattle.passes.proofs.turn.Goals as goal
+use Rattle.passes.proofs.Plan.turn.Goals as goal
 
 -- the first candidates are looked for, of as many right symbols as the production has
 module _ (bs : List ℕ) (good : refusal bs ≡ Ok tt) (p room : ℕ) (σ : Slices) (run : Run) (roomy : Roomy room σ run) (found : Production)
@@ -89,49 +89,53 @@ told treed reached found asked b read e = e ∙ ap (takes_part treed reached) re
 pub returns-then-not-first_candidates-clause-follows : goal.returns-then-not-first_candidates-clause-follows
 returns-then-not-first_candidates-clause-follows c =
     let a = c.args in
+    let plan = a.self.now in
     let p = c.production_of-production in
-    part_still (system_in a.table.now) a.room (λ i. takes_part a.part.now.treed.words a.part.now.reached.words (production (grammar_of a.table.now) i)) a.number _
-    a.run c.requires.2.stored
-    (nothing a.table.now c.requires.0 a.number a.room _ a.run c.requires.2 p.result p.ensures c.from-count.ensures
+    part_still (system_in plan.table.now) plan.room (part_by plan.part.treed.words plan.part.reached.words plan.table.now) a.number _
+    a.run c.requires.1.stored
+    (nothing plan.table.now plan.taken a.number plan.room _ a.run c.requires.1 p.result p.ensures c.from-count.ensures
     (ap (λ (σ : Slices). σ.symbols) c.entries.ensures) c.first_candidates.ensures c.if-not-first_candidates.true)
 
 pub returns-then-not-has-clause-follows : goal.returns-then-not-has-clause-follows
 returns-then-not-has-clause-follows c =
     let a = c.args in
+    let plan = a.self.now in
     let p = c.production_of-production in
-    let part = told a.part.now.treed.words a.part.now.reached.words p.result _ _ p.ensures c.has.ensures in
-    part_skip (system_in a.table.now) a.room (λ i. takes_part a.part.now.treed.words a.part.now.reached.words (production (grammar_of a.table.now) i)) a.number _
-    a.run (sym part ∙ c.if-not-has.true) c.requires.2.stored
+    let part = told plan.part.treed.words plan.part.reached.words p.result _ _ p.ensures c.has.ensures in
+    part_skip (system_in plan.table.now) plan.room (part_by plan.part.treed.words plan.part.reached.words plan.table.now) a.number _
+    a.run (sym part ∙ c.if-not-has.true) c.requires.1.stored
 
 pub task_of-task-requires : goal.task_of-task-requires
-task_of-task-requires c = omega (arith, c.requires.1, few_productions c.args.table.now c.requires.0)
+task_of-task-requires c = omega (arith, c.requires.0, few_productions c.args.self.now.table.now c.args.self.now.taken)
 
 pub combine-requires : goal.combine-requires
 combine-requires c =
     let a = c.args in
+    let plan = a.self.now in
     let p = c.production_of-production in
     let k = c.task_of-task in
     let looked = c.first_candidates.ensures in
     let same = ap (λ (σ : Slices). σ.symbols) c.entries.ensures in
     let some = c.if-not-first_candidates.false in (
-      turn_ready a.table.now c.requires.0 a.number a.room _ a.run c.requires.2 k.result
-          (k.ensures ∙ made a.table.now c.requires.0 a.number a.room _ a.run c.requires.2 p.result p.ensures) p.result.slots
-          (slots_are a.table.now c.requires.0 a.number a.room _ a.run c.requires.2 p.result p.ensures),
-      numbers a.table.now c.requires.0 a.number a.room _ a.run c.requires.2 p.result p.ensures c.from-count.ensures same looked some k.result
+      turn_ready plan.table.now plan.taken a.number plan.room _ a.run c.requires.1 k.result
+          (k.ensures ∙ made plan.table.now plan.taken a.number plan.room _ a.run c.requires.1 p.result p.ensures) p.result.slots
+          (slots_are plan.table.now plan.taken a.number plan.room _ a.run c.requires.1 p.result p.ensures),
+      numbers plan.table.now plan.taken a.number plan.room _ a.run c.requires.1 p.result p.ensures c.from-count.ensures same looked some k.result
           k.ensures,
-      each a.table.now c.requires.0 a.number a.room _ a.run c.requires.2 p.result p.ensures c.from-count.ensures same looked some k.result
+      each plan.table.now plan.taken a.number plan.room _ a.run c.requires.1 p.result p.ensures c.from-count.ensures same looked some k.result
           k.ensures,
     )
 
 pub returns-clause-follows : goal.returns-clause-follows
 returns-clause-follows c =
     let a = c.args in
+    let plan = a.self.now in
     let p = c.production_of-production in
     let k = c.task_of-task in
-    let part = told a.part.now.treed.words a.part.now.reached.words p.result _ _ p.ensures c.has.ensures in
-    part_turn (system_in a.table.now) a.room (λ i. takes_part a.part.now.treed.words a.part.now.reached.words (production (grammar_of a.table.now) i)) a.number _
+    let part = told plan.part.treed.words plan.part.reached.words p.result _ _ p.ensures c.has.ensures in
+    part_turn (system_in plan.table.now) plan.room (part_by plan.part.treed.words plan.part.reached.words plan.table.now) a.number _
     a.run (sym part ∙ c.if-not-has.false) _ _
-    (task_turn a.table.now c.requires.0 a.number a.room _ a.run k.result
-    (k.ensures ∙ made a.table.now c.requires.0 a.number a.room _ a.run c.requires.2 p.result p.ensures) p.result.slots
-    (slots_are a.table.now c.requires.0 a.number a.room _ a.run c.requires.2 p.result p.ensures) _ c.run_of-edges.ensures _ _
+    (task_turn plan.table.now plan.taken a.number plan.room _ a.run k.result
+    (k.ensures ∙ made plan.table.now plan.taken a.number plan.room _ a.run c.requires.1 p.result p.ensures) p.result.slots
+    (slots_are plan.table.now plan.taken a.number plan.room _ a.run c.requires.1 p.result p.ensures) _ c.run_of-edges.ensures _ _
     c.combine.ensures.follows)

@@ -1,4 +1,4 @@
--- `passes::passes` meets its contract. The invariant: from the state that was reached the passes go on to their outcome.
+-- `passes::Plan::passes` meets its contract. The invariant: from the state that was reached the passes go on to their outcome.
 -- The measure is the free room: each pass but the last stores an entry. Assumes nothing.
 use mathlib.Core.Path.{◌≡◌, refl, sym}
 use mathlib.Core.List.{List}
@@ -15,7 +15,7 @@ use Rattle.passes.specs.Follow.{run_in, Follows, Kept, Roomy, unsaid, ending_of}
 use Rattle.steps.proofs.Lending.{lent_same, lent_then}
 use Rattle.passes.proofs.Following.{kept_then, kept_roomy}
 use Rattle.passes.proofs.Reaching.{roomy_start, tells, Reached, reached_start, reached_more, ends_stop, ends_done}
-use Rattle.passes.proofs.passes.Goals as goal
+use Rattle.passes.proofs.Plan.passes.Goals as goal
 
 -- in the loop, which began with room in the slices for as many entries as they hold; and after a pass
 module _ {W : System} {limit room begun : ℕ} {ps : List ℕ} {σ₀ σ : Slices} {r : Run}
@@ -53,22 +53,22 @@ module _ {W : System} {limit room begun : ℕ} {ps : List ℕ} {σ₀ σ : Slice
     more ne = reached_more W limit room ps σ₀ r₀ refl begun σ r reached τ q followed ne
 
 pub loop-now-init : goal.loop-now-init
-loop-now-init c = (reached_start (system_in c.args.table.now) c.args.limit c.args.room _ _ _ refl refl, lent_same _)
+loop-now-init c = (reached_start (system_in c.args.self.now.table.now) c.args.limit c.args.self.now.room _ _ _ refl refl, lent_same _)
 
 pub pass-requires : goal.pass-requires
-pass-requires c = (c.requires.0, c.requires.1, roomy c.requires.2 c.loop-now.invariant.0)
+pass-requires c = roomy c.requires c.loop-now.invariant.0
 
 pub returns-in-Err-clause-tells : goal.returns-in-Err-clause-tells
 returns-in-Err-clause-tells c =
-    rw c.ended.ensures (stops c.requires.2 c.loop-now.invariant.0 (rw (sym c.in-Err.is) c.pass.ensures.follows))
+    rw c.ended.ensures (stops c.requires c.loop-now.invariant.0 (rw (sym c.in-Err.is) c.pass.ensures.follows))
 
 pub returns-then-now-before-clause-tells : goal.returns-then-now-before-clause-tells
 returns-then-now-before-clause-tells c =
     rw c.ended-then-now-before.ensures
-    (done c.requires.2 c.loop-now.invariant.0 (rw (sym c.in-Ok.is) c.pass.ensures.follows) c.if-now-before.true)
+    (done c.requires c.loop-now.invariant.0 (rw (sym c.in-Ok.is) c.pass.ensures.follows) c.if-now-before.true)
 
 pub loop-now-preserved : goal.loop-now-preserved
 loop-now-preserved c = (
-  more c.requires.2 c.loop-now.invariant.0 (rw (sym c.in-Ok.is) c.pass.ensures.follows) c.if-now-before.false,
+  more c.requires c.loop-now.invariant.0 (rw (sym c.in-Ok.is) c.pass.ensures.follows) c.if-now-before.false,
   lent_then c.loop-now.invariant.1 c.pass.ensures.lent,
 )
