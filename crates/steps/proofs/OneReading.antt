@@ -10,6 +10,10 @@ use Rattle.steps.specs.declared.Verdict.{Verdict}
 use Rattle.steps.specs.Lent.{held, read}
 use Rattle.steps.specs.Slices.{Slices}
 use Rattle.steps.specs.Step.{slices_at, Tried}
+use Rattle.steps.proofs.room_of.Kinds as room_of_kinds
+use Rattle.steps.proofs.room_of.Reads as room_of_reads
+use Rattle.steps.proofs.entry_of.Kinds as entry_of_kinds
+use Rattle.steps.proofs.entry_of.Reads as entry_of_reads
 use Rattle.steps.proofs.Store.entries.Kinds as entries_kinds
 use Rattle.steps.proofs.Store.entries.Reads as entries_reads
 use Rattle.steps.proofs.Entries.room.Kinds as room_kinds
@@ -26,11 +30,16 @@ use Rattle.steps.proofs.try_one.Reads as try_one_reads
 pub one_reading_entries : OneOutcome 2 entries_kinds.ps entries_kinds.r entries_reads.Post {W = λ κs. Slices} (λ κs r s. read r)
 one_reading_entries κs a x y s t p q = p ∙ sym q
 
--- of `Entries::room` and `Entries::entry`
-pub one_reading_room_of : OneResult 1 room_kinds.ps room_kinds.r room_reads.Post
+pub one_reading_room : OneResult 1 room_kinds.ps room_kinds.r room_reads.Post
+one_reading_room κs a x y s t p q = p ∙ sym q
+
+pub one_reading_entry : OneResult 1 entry_kinds.ps entry_kinds.r entry_reads.Post
+one_reading_entry κs a x y s t p q = p ∙ sym q
+
+pub one_reading_room_of : OneResult 0 room_of_kinds.ps room_of_kinds.r room_of_reads.Post
 one_reading_room_of κs a x y s t p q = p ∙ sym q
 
-pub one_reading_entry_of : OneResult 1 entry_kinds.ps entry_kinds.r entry_reads.Post
+pub one_reading_entry_of : OneResult 4 entry_of_kinds.ps entry_of_kinds.r entry_of_reads.Post
 one_reading_entry_of κs a x y s t p q = p ∙ sym q
 
 pub one_reading_going_on : OneResult 0 going_on_kinds.ps going_on_kinds.r going_on_reads.Post

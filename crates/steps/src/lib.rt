@@ -3,7 +3,7 @@
 #![tactic(auto)]
 
 ghost use Rattle.std.specs.Prelude.{◌≡◌};
-ghost use Rattle.steps.specs.Slices.{room_of, entry_in, put_in};
+ghost use Rattle.steps.specs.Slices.{room_for, room_of, entry_in, put_in, slices};
 ghost use Rattle.steps.specs.Lent.{held, read, Lent};
 ghost use Rattle.steps.specs.Step.{goes_on, stops, seen_in, least, Judges, Tried};
 
@@ -60,11 +60,12 @@ impl Entries<'_> {
     pub fn room(self) -> usize
         ensures { result ≡ room_of (read self.entry) }
     {
-        MOST_ENTRIES
-            .min(self.symbols.len())
-            .min(self.graphs.len())
-            .min(self.productions.len())
-            .min(self.kids.len() / SLOTS)
+        room_of(
+            self.symbols.len(),
+            self.graphs.len(),
+            self.productions.len(),
+            self.kids.len(),
+        )
     }
 
     // The entry of a number; where the slices hold none, one of zeros.
@@ -165,6 +166,36 @@ fn judge(
         return Err(Verdict::Full);
     }
     Ok(made.graph)
+}
+
+// How many entries slices of these lengths hold.
+pub fn room_of(symbols: usize, graphs: usize, productions: usize, kids: usize) -> usize
+    ensures { result ≡ room_for symbols graphs productions kids }
+{
+    MOST_ENTRIES
+        .min(symbols)
+        .min(graphs)
+        .min(productions)
+        .min(kids / SLOTS)
+}
+
+// The entry of a number in four slices, as `Entries` has it.
+pub fn entry_of(
+    symbols: &[u16],
+    graphs: &[u64],
+    productions: &[u16],
+    kids: &[u16],
+    i: usize,
+) -> Entry
+    ensures { result ≡ entry_in (slices symbols.now graphs.now productions.now kids.now) i }
+{
+    let entries = Entries {
+        symbols,
+        graphs,
+        productions,
+        kids,
+    };
+    entries.entry(i)
 }
 
 // A run that goes on, with so many closures left and so many entries stored.
