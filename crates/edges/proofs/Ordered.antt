@@ -1,11 +1,16 @@
 -- The order that is derived for edges is that of their numbers, field by field. Assumes nothing.
-use mathlib.Core.Path.{◌≡◌, refl}
+use mathlib.Core.Path.{◌≡◌, refl, ◌∙◌}
+use Prim.Native.Nat.{ℕ}
+use borrow.Author.Tests.{eq-eqb}
+use lib.Dec.{eqb}
 use mathlib.Core.Bool.{Bool, true, false, ◌||◌}
 use Rattle.std.proofs.Common.{Option, Some, cond, Ordering, Less, Equal, Greater}
 use Rattle.std.specs.Ordering.{is_lt, is_some_and, nat_cmp, partial_ordering_then}
 use Rattle.numbers.specs.Lists.{both, below}
 use Rattle.grammar.specs.declared.Edge.{Edge}
 use Rattle.grammar.specs.Rules.{key}
+use Rattle.grammar.specs.Refusal.{in_order}
+use Rattle.grammar.proofs.Handing.{order_first, order_later}
 
 abbrev by : Bool → Bool → Option Ordering
 by l e = Some (cond l Less (cond e Equal Greater))
@@ -27,12 +32,22 @@ fields false false false false true true true true true h = refl
 fields false false false false false true true true true true = refl
 fields false false false false false true true true true false = refl
 
-pub ordered : (a b : Edge)
-    → is_some_and is_lt
+-- `a < b`, as it is derived
+abbrev pub less : Edge → Edge → Bool
+less a b =
+    is_some_and is_lt
     (partial_ordering_then (Some (nat_cmp a.production b.production))
     (partial_ordering_then
     (partial_ordering_then (Some (nat_cmp a.source.occurrence b.source.occurrence)) (Some (nat_cmp a.source.attribute b.source.attribute)))
     (partial_ordering_then (Some (nat_cmp a.target.occurrence b.target.occurrence)) (Some (nat_cmp a.target.attribute b.target.attribute)))))
-    ≡ below (key a) (key b)
+
+pub ordered : (a b : Edge) → less a b ≡ below (key a) (key b)
 unfolding below
 ordered a b = fields _ _ _ _ _ _ _ _ _ _
+
+-- what the code answers of the edge i: the first has none before it
+pub first_placed : (i : ℕ) (before e : Edge) → i ≡ 0 → eqb i 0 ≡ in_order i before e
+first_placed i before e h = eq-eqb i 0 h ∙ order_first i before e h
+
+pub later_placed : (i : ℕ) (before e : Edge) → (i ≡ 0 → ⊥) → less before e ≡ in_order i before e
+later_placed i before e h = ordered before e ∙ order_later i before e h

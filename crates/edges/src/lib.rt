@@ -70,6 +70,7 @@ fn target_ok(e: Edge, target: Symbol) -> bool
 }
 
 // Rule 7: the edge i is above the edge before it, by production, then by the other four fields in their order.
+#[tactic(auto, using(crate::proofs::Ordered::first_placed, crate::proofs::Ordered::later_placed))]
 fn in_order(i: usize, before: Edge, e: Edge) -> bool
     ensures { result ≡ in_order i before e }
 {
