@@ -100,7 +100,7 @@ def places():
             if re.search(r'if [^\n]* \{\n\s+return (true|false);\n\s+\}', body):
                 yield '4 condition taken apart into returns', where, name
 
-    answers = list(TOP.glob('crates/*/proofs/*/Answers.antt'))
+    answers = list(TOP.glob('crates/*/proofs/**/Answers.antt'))
     for path in answers:
         crate = path.parts[-4]
         for m in re.finditer(r'^\S+( \w+)* = search rules$', path.read_text(), re.M):
@@ -116,5 +116,5 @@ for kind in sorted(found):
         for where, what in found[kind]:
             print(f'    {where}  {what}')
 print('proofs: %d answer files, %d lines in proofs/' % (
-    len(list(TOP.glob('crates/*/proofs/*/Answers.antt'))),
+    len(list(TOP.glob('crates/*/proofs/**/Answers.antt'))),
     sum(len(p.read_text().split('\n')) - 1 for p in TOP.glob('crates/*/proofs/**/*.antt'))))

@@ -34,7 +34,7 @@ fn masks_of(table: &[u8], production: Production) -> [u16; OCCURRENCES]
 {
     let rights = usize::from(production.n).min(SLOTS);
     let mut masks = [0u16; OCCURRENCES];
-    // By index, as it is written: after a write through `iter_mut` only the length would be known.
+    // By number: what is written is the mask of an occurrence.
     for o in 0..rights + 1 {
         masks[o] = mask_at(table, production, o);
     }

@@ -63,7 +63,7 @@ fn trail_in(trail: &Trail, out: &mut [u32])
     ensures { out.new ≡ flat_trail trail.now }
 {
     out[0] = u32::from(trail.len);
-    // By index, as it is written: after a write through `iter_mut` only the length would be known.
+    // By index, since each node and its mark are read and written at four places of one number.
     for i in 0..NODES {
         out[1 + i] = u32::from(trail.nodes[i]);
         out[1 + NODES + i] = u32::from(trail.marks[i]);

@@ -18,7 +18,7 @@ fn store(row: &mut [Entry], entries: Entries<'_>, n: usize)
     requires { (n ≤ length row.old) × (n ≤ room_of (read entries)) }
     ensures { row.new ≡ written (entries_to (read entries.entry) n) row.old }
 {
-    // By index: after a write through `iter_mut` no more of the row would be known than its length.
+    // By number, by which the entry is read.
     for i in 0..n {
         row[i] = entries.entry(i);
     }
