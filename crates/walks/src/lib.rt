@@ -3,7 +3,6 @@
 
 ghost use Rattle.std.specs.Prelude.{◌≡◌, true, Bool, List, ℕ, ◌+◌, ◌≤◌, ◌<◌, leb, ltb, length, get_or, take};
 ghost use mathlib.Core.List.{Memᴰ};
-ghost use Rattle.numbers.specs.Number.{le2};
 ghost use Rattle.numbers.specs.Lists.{every};
 ghost use Rattle.grammar.specs.declared.Production.{Production};
 ghost use Rattle.grammar.specs.Grammar.{rights};
@@ -16,6 +15,7 @@ ghost use Rattle.parts.proofs.Walks.{step as stepped};
 ghost use Rattle.walks.specs.Walk.{turned, Whole, Added};
 
 use grammar::{MOST_SYMBOLS, PRODUCTION_BYTES, Production, SLOTS};
+use numbers::two_at;
 use parts::WORDS;
 use std::marker::Model;
 use tables::{header_of, offsets_of};
@@ -79,26 +79,18 @@ impl<'a> Model for Record<'a> {
     ghost invariant = { λ r. length r.bytes.now ≡ 18 };
 }
 
-// Without asking whether the bytes are there, as `numbers::two_at` does: a walk reads every production.
-fn two_in(bytes: &[u8], at: usize) -> u16
-    requires { at + 1 < length bytes.now }
-    ensures { result ≡ le2 bytes.now at }
-{
-    u16::from_le_bytes([bytes[at], bytes[at + 1]])
-}
-
 impl Record<'_> {
     fn left(&self) -> u16
         ensures { result ≡ self.now.left }
     {
-        two_in(self.bytes, 0)
+        two_at(self.bytes, 0)
     }
 
     // How many right symbols it has.
     fn count(&self) -> usize
         ensures { result ≡ length (rights self.now) }
     {
-        usize::from(two_in(self.bytes, 2)).min(SLOTS)
+        usize::from(two_at(self.bytes, 2)).min(SLOTS)
     }
 
     // Its right symbol k.
@@ -106,7 +98,7 @@ impl Record<'_> {
         requires { k < length (rights self.now) }
         ensures { result ≡ get_or (rights self.now) k 0 }
     {
-        two_in(self.bytes, 4 + 2 * k)
+        two_at(self.bytes, 4 + 2 * k)
     }
 
     // Each right symbol is in the set. With `all` over the numbers an answer on 512 productions took 2% more instructions.

@@ -5,4 +5,4 @@ use Rattle.walks.proofs.Steps.{count_read}
 use Rattle.walks.proofs.Record.count.Goals as goal
 
 pub returns : goal.returns
-returns c = c.min.ensures ∙ ap (λ (n : ℕ). min n 7) (c.from.ensures ∙ c.two_in.ensures) ∙ count_read _ c.self.view_is
+returns c = c.min.ensures ∙ ap (λ (n : ℕ). min n 7) (c.from.ensures ∙ c.two_at.ensures) ∙ count_read _ c.self.view_is

@@ -4,4 +4,4 @@ use Rattle.walks.proofs.Steps.{left_read}
 use Rattle.walks.proofs.Record.left.Goals as goal
 
 pub returns : goal.returns
-returns c = c.two_in.ensures ∙ left_read _ c.self.view_is
+returns c = c.two_at.ensures ∙ left_read _ c.self.view_is

@@ -10,8 +10,5 @@ overflow_mul-k c = record { fits = omega (arith, c.requires, seven_rights _ c.se
 pub overflow_add-k : goal.overflow_add-k
 overflow_add-k c = record { fits = omega (arith, c.requires, seven_rights _ c.self.view_is) }
 
-pub two_in-requires : goal.two_in-requires
-two_in-requires c = omega (arith, c.requires, c.self.invariant, seven_rights _ c.self.view_is)
-
 pub returns : goal.returns
-returns c = c.two_in.ensures ∙ right_read _ c.self.view_is c.args.k c.requires
+returns c = c.two_at.ensures ∙ right_read _ c.self.view_is c.args.k c.requires
