@@ -20,7 +20,7 @@ fn store(row: &mut [Entry], entries: Entries<'_>, n: usize)
 {
     // By number, by which the entry is read.
     for i in 0..n {
-        row[i] = entries.entry(i);
+        rows::put_entry(row, i, entries.entry(i));
     }
 }
 

@@ -31,5 +31,5 @@ loop-i-init c = refl
 
 pub loop-i-preserved : goal.loop-i-preserved
 loop-i-preserved c =
-    rw (c.loop-i.invariant, c.entry.ensures)
+    rw (c.put_entry.ensures, c.loop-i.invariant, c.entry.ensures)
     (more (read c.args.entries) c.args.row.now c.args.n c.loop-i.i c.requires.0 c.requires.1 c.loop-i-test.true)
