@@ -72,23 +72,7 @@ impl Entries<'_> {
     pub fn entry(self, i: usize) -> Entry
         ensures { result ≡ entry_in (read self.entry) i }
     {
-        if self.room() <= i {
-            return Entry {
-                symbol: 0,
-                graph: 0,
-                production: 0,
-                kids: [0u16; SLOTS],
-            };
-        }
-        let at = SLOTS * i;
-        let mut kids = [0u16; SLOTS];
-        kids.copy_from_slice(&self.kids[at..at + SLOTS]);
-        Entry {
-            symbol: self.symbols[i],
-            graph: self.graphs[i],
-            production: self.productions[i],
-            kids,
-        }
+        entry_of(self.symbols, self.graphs, self.productions, self.kids, i)
     }
 
     // Whether the symbol with the graph is among the first `stored` entries that have both, which are looked at from the last down.
@@ -179,7 +163,7 @@ pub fn room_of(symbols: usize, graphs: usize, productions: usize, kids: usize) -
         .min(kids / SLOTS)
 }
 
-// The entry of a number in four slices, as `Entries` has it.
+// The entry of a number in four slices; where they hold none, one of zeros.
 pub fn entry_of(
     symbols: &[u16],
     graphs: &[u64],
@@ -189,13 +173,23 @@ pub fn entry_of(
 ) -> Entry
     ensures { result ≡ entry_in (slices symbols.now graphs.now productions.now kids.now) i }
 {
-    let entries = Entries {
-        symbols,
-        graphs,
-        productions,
-        kids,
-    };
-    entries.entry(i)
+    if room_of(symbols.len(), graphs.len(), productions.len(), kids.len()) <= i {
+        return Entry {
+            symbol: 0,
+            graph: 0,
+            production: 0,
+            kids: [0u16; SLOTS],
+        };
+    }
+    let at = SLOTS * i;
+    let mut slots = [0u16; SLOTS];
+    slots.copy_from_slice(&kids[at..at + SLOTS]);
+    Entry {
+        symbol: symbols[i],
+        graph: graphs[i],
+        production: productions[i],
+        kids: slots,
+    }
 }
 
 // A run that goes on, with so many closures left and so many entries stored.
