@@ -10,9 +10,13 @@ use Rattle.lookups.specs.Lookup.{first_of}
 abbrev pub blank_entry : Entry
 blank_entry = record { symbol = 65535; graph = 0; production = 65535; kids = replicate 7 65535 }
 
+-- the record e is the entry that is stored at i, and is found first there, and not among those before it
+abbrev pub StoredAt : Slices → ℕ → Option ℕ → Option ℕ → Entry → Type 0
+StoredAt σ i first before e = (i < room_of σ) × (first ≡ Some i) × (before ≡ None) × (e ≡ entry_at σ i)
+
 -- the record e at i, which is found first at `first`, and among those before it at `before`, where n are stored
 pub record AsTold (σ : Slices) (n i : ℕ) (first before : Option ℕ) (e : Entry) : Type 0 where
-  pub stored : i < n → (i < room_of σ) × (first ≡ Some i) × (before ≡ None) × (e ≡ entry_at σ i)
+  pub stored : i < n → StoredAt σ i first before e
   pub rest : n ≤ i → e ≡ blank_entry
 
 -- the first place in some entries of the symbol and the graph of e

@@ -5,7 +5,7 @@ ghost use Rattle.std.specs.Prelude.{true, ◌↔◌, ◌≡◌, min};
 ghost use Rattle.rules.specs.Test as stated;
 ghost use Rattle.steps.specs.Lent.{read};
 ghost use Rattle.passes.specs.Slices.{Tells};
-ghost use Rattle.agreement.specs.Agreement.{blank_entry, AlikeAt, Alike};
+ghost use Rattle.agreement.specs.Agreement.{blank_entry, StoredAt, AlikeAt, Alike};
 
 use grammar::SLOTS;
 use rules::{Entry, MOST_ENTRIES, Report};
@@ -23,8 +23,21 @@ fn blank() -> Entry
     }
 }
 
-// Whether the record at a place is what it should be: the entry that is stored there, which is found first at its own number and not
-// before; after the stored ones a blank record.
+// Whether e is the entry that is stored at a place, and its symbol and graph are found first at this place and not before it. The two
+// finds are taken as they are given, so that each has to be tested: of a row in which both are looked up the one says what the other does.
+fn is_stored(
+    e: Entry,
+    first: Option<usize>,
+    before: Option<usize>,
+    at: usize,
+    entries: Entries<'_>,
+) -> bool
+    ensures { (result ≡ true) ↔ StoredAt (read entries.entry) at first before e }
+{
+    at < entries.room() && first == Some(at) && before.is_none() && e == entries.entry(at)
+}
+
+// Whether the record at a place is what it should be: the entry that is stored there, or after the stored ones a blank record.
 fn as_told(row: &[Entry], at: usize, stored: u16, entries: Entries<'_>) -> bool
     ensures { (result ≡ true) ↔ AlikeAt (read entries.entry) stored row.now at }
 {
@@ -34,7 +47,7 @@ fn as_told(row: &[Entry], at: usize, stored: u16, entries: Entries<'_>) -> bool
     }
     let first = lookups::lookup(row, row.len(), e.symbol, e.graph);
     let before = lookups::lookup(row, at, e.symbol, e.graph);
-    at < entries.room() && first == Some(at) && before.is_none() && e == entries.entry(at)
+    is_stored(e, first, before, at, entries)
 }
 
 // Whether each record of the row is what it should be.
