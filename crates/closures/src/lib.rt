@@ -96,7 +96,7 @@ pub fn root_graph(rows: &[u64; NODES]) -> u64
 fn occurrences_of(picked: &[u16], count: usize) -> usize
     ensures { result ≡ min count (length picked.now) + 1 }
 {
-    count.min(picked.len()) + 1
+    numbers::smaller(count, picked.len()) + 1
 }
 
 // One closure: a combination's compound graph in a table of its own, closed. Of more than seven picked entries the first seven count.

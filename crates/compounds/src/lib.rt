@@ -76,7 +76,7 @@ fn place_all(rows: &mut [u64; NODES], graphs: &[u64], picked: &[u16], count: usi
     ensures { rows.new
         ≡ placed_from attributes 1 (picked_graphs graphs.now count picked.now) rows.old }
 {
-    let some = &picked[..count.min(picked.len())];
+    let some = &picked[..numbers::smaller(count, picked.len())];
     for (k, &number) in some.iter().enumerate() {
         let pairs = graph_of(graphs, number);
         place(rows, pairs, k + 1);

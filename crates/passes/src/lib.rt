@@ -92,7 +92,7 @@ fn task_of(number: usize, production: Production, room: usize) -> Task
     Task {
         number: number as u16,
         symbol: production.left,
-        count: usize::from(production.n),
+        count: numbers::wide(production.n),
         room,
     }
 }
@@ -145,7 +145,7 @@ impl<'a> Plan<'a> {
     {
         let production = tables::production_of(self.table, number);
         let rights = production.slots;
-        let count = usize::from(production.n);
+        let count = numbers::wide(production.n);
         let first = run.stored as u16;
         let mut firsts = [0u16; SLOTS];
         if !turns::first_candidates(store.entries().symbols, &rights, count, first, &mut firsts) {
@@ -168,7 +168,7 @@ impl<'a> Plan<'a> {
             (held store.new) result }
         ensures lent { Lent store.old store.new }
     {
-        let count = usize::from(tables::header_of(self.table).productions);
+        let count = numbers::wide(tables::header_of(self.table).productions);
         let mut now = run;
         for number in 0..count {
             now = self.turn(number, store, now)?;
@@ -212,7 +212,7 @@ impl<'a> Plan<'a> {
         ensures { result ≡ circle_over self.now.table.now graphs.now root answer }
     {
         match answer {
-            Answer::Circular(p) => circles::circle_of(self.table, graphs, usize::from(p), root),
+            Answer::Circular(p) => circles::circle_of(self.table, graphs, numbers::wide(p), root),
             _ => search::no_trail(),
         }
     }
@@ -230,7 +230,7 @@ impl<'a> Plan<'a> {
             entries,
             passes,
         } = ending;
-        let circle = self.circle_said(&graphs[..usize::from(entries)], root, answer);
+        let circle = self.circle_said(&graphs[..numbers::wide(entries)], root, answer);
         Report {
             answer,
             closures,

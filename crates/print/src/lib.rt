@@ -27,8 +27,8 @@ const CIRCLE_BYTES: usize = LINE_BYTES * 5;
 fn kids_in(table: &[u8], p: u16) -> usize
     ensures { result ≡ kids_in table.now p }
 {
-    let production = tables::production_of(table, usize::from(p));
-    usize::from(production.n)
+    let production = tables::production_of(table, numbers::wide(p));
+    numbers::wide(production.n)
 }
 
 // A lent buffer, and the place behind what stands in it so far.
@@ -129,7 +129,7 @@ impl Page<'_> {
         if let Answer::Refused(_) = report.answer {
             return;
         }
-        self.entry_lines(table, entries, usize::from(report.entries));
+        self.entry_lines(table, entries, numbers::wide(report.entries));
         if let Answer::Circular(p) = report.answer {
             self.root_lines(table, p, report);
         }
@@ -164,7 +164,7 @@ pub fn report_text(buf: &mut [u8], table: &[u8], report: Report, entries: Entrie
         (printed (kids_in table.now) (read_out report (read entries.entry)))
         (enough report (read entries.entry) buf.old) buf.old buf.new result }
 {
-    if !is_enough(usize::from(report.entries), entries.room(), buf.len()) {
+    if !is_enough(numbers::wide(report.entries), entries.room(), buf.len()) {
         return 0;
     }
     let mut page = Page { buf, at: 0 };

@@ -28,7 +28,7 @@ impl<'a> Graph<'a> {
         ensures rows { result.rows.now ≡ take (attributes * occurrences) rows.now }
         ensures masks { result.masks.now ≡ masks.now }
     {
-        let m = ATTRIBUTES * occurrences.min(OCCURRENCES);
+        let m = ATTRIBUTES * numbers::smaller(occurrences, OCCURRENCES);
         Graph {
             rows: &rows[..m],
             masks,

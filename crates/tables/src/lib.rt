@@ -13,7 +13,7 @@ use grammar::{
     SYMBOL_BYTES, Symbol,
 };
 pub use headers::{header_of, offsets_of};
-use numbers::{byte_at, two_at};
+use numbers::{byte_at, smaller, two_at};
 
 // A record that is there whole is read out of a slice of its own length, which the compiler knows: then no byte is asked for whether it is
 // there. That is so only where such a slice has a call of its own, so each reader is called twice.
@@ -39,7 +39,7 @@ fn part_of(table: &[u8], at: usize, size: usize) -> &[u8]
     ensures { result.now ≡ take size (drop at table.now) }
 {
     let whole = table.len();
-    &table[at.min(whole)..(at + size).min(whole)]
+    &table[smaller(at, whole)..smaller(at + size, whole)]
 }
 
 fn production_from(bytes: &[u8]) -> Production

@@ -14,14 +14,14 @@ pub loop-k-init : goal.loop-k-init
 loop-k-init c =
     let a = c.args in
     ap (λ (numbers : List ℕ). placed_from 8 1 (graphs_at a.graphs.now numbers) a.rows.now)
-    (take_clipped a.count c.min.result a.picked.now (omega arith))
+    (take_clipped a.count c.smaller.result a.picked.now (omega arith))
 
 pub loop-k-preserved : goal.loop-k-preserved
 loop-k-preserved c =
     let l = c.loop-k in
-    one_placed c.args.graphs.now (take c.min.result c.args.picked.now) l.rows l.k (omega arith) c.graph_of-pairs.ensures c.place.ensures
+    one_placed c.args.graphs.now (take c.smaller.result c.args.picked.now) l.rows l.k (omega arith) c.graph_of-pairs.ensures c.place.ensures
     ∙ l.invariant
 
 pub returns : goal.returns
 returns c =
-    none_left c.args.graphs.now (take c.min.result c.args.picked.now) c.loop-k.rows c.loop-k.k (omega arith) ∙ c.loop-k.invariant
+    none_left c.args.graphs.now (take c.smaller.result c.args.picked.now) c.loop-k.rows c.loop-k.k (omega arith) ∙ c.loop-k.invariant

@@ -11,6 +11,6 @@ returns c =
     let args = c.args in
     let bs = args.table.now in
     let size : args.at + args.size - args.at ≡ args.size = omega arith in
-    ap₂ (λ a e. take (e - a) (drop a bs)) c.min.ensures c.min-2.ensures
+    ap₂ (λ a e. take (e - a) (drop a bs)) c.smaller.ensures c.smaller-2.ensures
     ∙ clipped bs args.at (args.at + args.size) (omega arith)
     ∙ ap (λ n. take n (drop args.at bs)) size

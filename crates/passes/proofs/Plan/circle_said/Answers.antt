@@ -11,7 +11,7 @@ pub returns-in-Circular : goal.returns-in-Circular
 returns-in-Circular c =
     let bs = c.args.self.now.table.now in
     c.circle_of.ensures
-    ∙ ap (λ (p : ℕ). ring_in bs c.args.graphs.now p c.args.root) c.from.ensures
+    ∙ ap (λ (p : ℕ). ring_in bs c.args.graphs.now p c.args.root) c.wide.ensures
     ∙ one_said bs c.args.self.now.taken c.args.graphs.now c.args.root _ (omega arith)
     ∙ ap (circle_over bs c.args.graphs.now c.args.root) (sym c.in-Circular.is)
 

@@ -42,7 +42,7 @@ loop-number-init c =
 pub turn-requires : goal.turn-requires
 turn-requires c =
     let l = c.loop-number in
-    let n = counted c.args.self.now.table.now _ _ c.header_of.ensures c.from-count.ensures in
+    let n = counted c.args.self.now.table.now _ _ c.header_of.ensures c.wide-count.ensures in
     (omega (arith, n, c.loop-number-test.true), kept_roomy _ _ _ _ _ l.invariant.1.kept c.requires)
 
 pub returns-in_err-now-clause-follows : goal.returns-in_err-now-clause-follows
@@ -53,7 +53,7 @@ returns-in_err-now-clause-follows c =
     let w = err_from_is_err_and c.from_residual.result c.from_residual.ensures.1 in
     rw (w.1, w.2)
     (over_all plan.table.now plan.part.treed.words plan.part.reached.words plan.parts
-    (counted plan.table.now _ _ c.header_of.ensures c.from-count.ensures)
+    (counted plan.table.now _ _ c.header_of.ensures c.wide-count.ensures)
     (pass_stopped (system_in plan.table.now) plan.room (part_by plan.part.treed.words plan.part.reached.words plan.table.now) _ a.run _
     l.now l.number l.invariant.1 _ c.loop-number-test.true _ _ (rw (sym c.in_err-now.was) c.turn.ensures.follows)))
 
@@ -71,6 +71,6 @@ loop-number-preserved c =
 pub returns-clause-follows : goal.returns-clause-follows
 returns-clause-follows c =
     let plan = c.args.self.now in
-    let n = counted plan.table.now _ _ c.header_of.ensures c.from-count.ensures in
+    let n = counted plan.table.now _ _ c.header_of.ensures c.wide-count.ensures in
     let e : c.loop-number.number ≡ P plan.table.now = omega (arith, n) in
     over_all plan.table.now plan.part.treed.words plan.part.reached.words plan.parts e c.loop-number.invariant.1

@@ -11,4 +11,4 @@ returns c =
     let r = unsaid c.args.ending in
     ap (λ t. report_with t r)
     (c.circle_said-circle.ensures
-    ∙ ap (λ (n : ℕ). circle_over c.args.self.now.table.now (take n c.args.graphs.now) r.root r.answer) c.from.ensures)
+    ∙ ap (λ (n : ℕ). circle_over c.args.self.now.table.now (take n c.args.graphs.now) r.root r.answer) c.wide.ensures)

@@ -93,7 +93,7 @@ returns-then-not-first_candidates-clause-follows c =
     let p = c.production_of-production in
     part_still (system_in plan.table.now) plan.room (part_by plan.part.treed.words plan.part.reached.words plan.table.now) a.number _
     a.run c.requires.1.stored
-    (nothing plan.table.now plan.taken a.number plan.room _ a.run c.requires.1 p.result p.ensures c.from-count.ensures
+    (nothing plan.table.now plan.taken a.number plan.room _ a.run c.requires.1 p.result p.ensures c.wide-count.ensures
     (ap (λ (σ : Slices). σ.symbols) c.entries.ensures) c.first_candidates.ensures c.if-not-first_candidates.true)
 
 pub returns-then-not-has-clause-follows : goal.returns-then-not-has-clause-follows
@@ -120,9 +120,9 @@ combine-requires c =
       turn_ready plan.table.now plan.taken a.number plan.room _ a.run c.requires.1 k.result
           (k.ensures ∙ made plan.table.now plan.taken a.number plan.room _ a.run c.requires.1 p.result p.ensures) p.result.slots
           (slots_are plan.table.now plan.taken a.number plan.room _ a.run c.requires.1 p.result p.ensures),
-      numbers plan.table.now plan.taken a.number plan.room _ a.run c.requires.1 p.result p.ensures c.from-count.ensures same looked some k.result
+      numbers plan.table.now plan.taken a.number plan.room _ a.run c.requires.1 p.result p.ensures c.wide-count.ensures same looked some k.result
           k.ensures,
-      each plan.table.now plan.taken a.number plan.room _ a.run c.requires.1 p.result p.ensures c.from-count.ensures same looked some k.result
+      each plan.table.now plan.taken a.number plan.room _ a.run c.requires.1 p.result p.ensures c.wide-count.ensures same looked some k.result
           k.ensures,
     )
 
