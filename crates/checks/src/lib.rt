@@ -12,7 +12,7 @@ use grammar::{Broken, Edge, HEADER_BYTES, Node, Rule};
 fn handed_up<T: Copy>(read: Result<T, Rule>, i: u16) -> Result<T, Broken>
     ensures { MatchResult read (λ x. result ≡ Ok x) (λ k. result ≡ Err (Broken.Record (number k) i)) }
 {
-    read.map_err(|rule| Broken::Record(rule.number(), i))
+    read.map_err(|rule| Broken::Record(reads::number(rule), i))
 }
 
 // Of the first `count` records of a kind the first that is refused, by its number.
@@ -72,13 +72,13 @@ pub fn check(table: &[u8]) -> Result<(), Broken>
     ensures { result ≡ refusal table.now }
 {
     if table.len() < HEADER_BYTES {
-        return Err(Broken::Rule(Rule::HeaderShort.number()));
+        return Err(Broken::Rule(reads::number(Rule::HeaderShort)));
     }
     if !reads::counts_ok(table) {
-        return Err(Broken::Rule(Rule::Counts.number()));
+        return Err(Broken::Rule(reads::number(Rule::Counts)));
     }
     if !reads::offsets_ok(table) {
-        return Err(Broken::Rule(Rule::Offsets.number()));
+        return Err(Broken::Rule(reads::number(Rule::Offsets)));
     }
     check_symbols(table)?;
     check_productions(table)?;

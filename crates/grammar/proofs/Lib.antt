@@ -9,4 +9,3 @@ pub mod Decided
 pub mod Refused
 pub mod Runs
 pub mod Valid
-pub mod OneReading

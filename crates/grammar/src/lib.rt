@@ -1,9 +1,6 @@
 // The numbers and the records that a grammar table is made of, and what reading one gives: what the rules and the code share.
 #![tactic(auto)]
 
-ghost use Rattle.std.specs.Prelude.{◌≡◌};
-ghost use Rattle.grammar.specs.Refusal.{number};
-
 // Of a table, in bytes: its header, and a record of each kind.
 pub const HEADER_BYTES: usize = 24;
 
@@ -92,14 +89,6 @@ pub enum Rule {
     NoOccurrence = 11,
     NoAttribute = 12,
     NotAllowed = 13,
-}
-
-impl Rule {
-    pub fn number(self) -> u8
-        ensures { result ≡ number self }
-    {
-        self as u8
-    }
 }
 
 // The rule that is broken, by its number; where it is a rule of records, with the number of the first bad one, counted from 0 in its own

@@ -1,16 +1,23 @@
-// The header, the symbols and the productions of a table, each held to its rule.
+// The header, the symbols and the productions of a table, each held to its rule, and the number by which a rule is published.
 #![tactic(auto)]
 
 ghost use Rattle.std.specs.Prelude.{◌≡◌, ◌≤◌, ltb, take, drop};
 ghost use Rattle.numbers.specs.Lists.{every};
 ghost use Rattle.grammar.specs.Grammar.{symbol, production};
 ghost use Rattle.grammar.specs.Table.{N, attributes, width_of, grammar_of};
-ghost use Rattle.grammar.specs.Refusal.{counts_ok, offsets_ok, symbol_ok, production_ok, symbol_read, production_read};
+ghost use Rattle.grammar.specs.Refusal.{number, counts_ok, offsets_ok, symbol_ok, production_ok, symbol_read, production_read};
 
 use grammar::{
     ATTRIBUTES, MOST_EDGES, MOST_PRODUCTIONS, MOST_SYMBOLS, Production, Rule, SLOTS, Symbol,
 };
 use numbers::four_at;
+
+// The published number of a rule.
+pub fn number(rule: Rule) -> u8
+    ensures { result ≡ number rule }
+{
+    rule as u8
+}
 
 // Rule 2: the counts and the start symbol.
 #[tactic(auto, unfolding(grammar::specs::Refusal::counts_ok, numbers::specs::Lists::both))]
