@@ -10,6 +10,7 @@ use Rattle.steps.specs.declared.Verdict.{Verdict}
 use Rattle.steps.specs.Lent.{held, read}
 use Rattle.steps.specs.Slices.{Slices}
 use Rattle.steps.specs.Step.{slices_at, Tried}
+use Rattle.steps.proofs.Lending.{Loans, loans, same_loans}
 use Rattle.steps.proofs.room_of.Kinds as room_of_kinds
 use Rattle.steps.proofs.room_of.Reads as room_of_reads
 use Rattle.steps.proofs.entry_of.Kinds as entry_of_kinds
@@ -57,8 +58,9 @@ tried_once {k} {edges} {picked} {left} {stored} {σ} a b =
     let same = a.verdict_is ∙ sym b.verdict_is in
     λ i. (same i, (a.slices ∙ ap (λ (v : Verdict). slices_at v k (root_graph 8 (closed_in edges σ.graphs k.count picked)) picked stored σ) same ∙ sym b.slices) i)
 
--- the parameters at exit: store, edges, task, picked, left, stored
+-- the parameters at exit: store, edges, task, picked, run. What the store holds stands in the slices that were lent, since it is left
+-- with these loans
 pub one_reading_try_one :
-    OneOutcome 4 try_one_kinds.ps try_one_kinds.r try_one_reads.Post {W = λ κs. Back}
-    (λ κs r s. (r, held s.0.now))
-one_reading_try_one κs a x y s t p q = tried_once p.0 q.0
+    OneOutcome 4 try_one_kinds.ps try_one_kinds.r try_one_reads.Post {W = λ κs. Back × Loans}
+    (λ κs r s. ((r, held s.0.now), loans s.0.now))
+one_reading_try_one κs a x y s t p q i = (tried_once p.0 q.0 i, same_loans p.1 q.1 i)
