@@ -39,8 +39,8 @@ pub fn four_at(b: &[u8], i: usize) -> u32
     u32::from(two_at(b, i)) + 65536 * u32::from(two_after(b, i))
 }
 
-// A number of 16 bits as an index. This and the next have theorems of their own, so what the check, the test, the search and the text go
-// through are these; elsewhere the crates above say `usize::from` and `min`.
+// A number of 16 bits as an index. This and the next have theorems of their own, and both programs and the exports that check, test or
+// search go by them, by one or both; elsewhere the crates above say `usize::from` and `min`.
 pub fn wide(x: u16) -> usize
     ensures { result ≡ x }
 {
